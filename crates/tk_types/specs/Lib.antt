@@ -1,0 +1,4 @@
+pub mod CallNames
+pub mod Codes
+pub mod Modes
+pub mod Calls
