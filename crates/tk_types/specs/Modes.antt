@@ -28,16 +28,16 @@ attributes_of bits = record {
   ta_inherit = has bits 14;
   ta_ceiling = has bits 15;
   ta_sta = has bits 16;
-  ta_phs = has bits 17
-  }
+  ta_phs = has bits 17;
+}
 
 unfoldable pub flag_mode_of : ℕ → FlagMode
 flag_mode_of bits = record {
   twf_andw = has bits 0;
   twf_orw = has bits 1;
   twf_clr = has bits 2;
-  twf_bitclr = has bits 3
-  }
+  twf_bitclr = has bits 3;
+}
 
 unfoldable pub open_mode_of : ℕ → OpenMode
 open_mode_of bits = record {
@@ -46,8 +46,8 @@ open_mode_of bits = record {
   td_update = has bits 2;
   td_excl = has bits 3;
   td_wexcl = has bits 4;
-  td_rexcl = has bits 5
-  }
+  td_rexcl = has bits 5;
+}
 
 unfoldable pub suspend_mode_of : ℕ → SuspendMode
 suspend_mode_of bits = record {
@@ -55,5 +55,5 @@ suspend_mode_of bits = record {
   td_dissus = has bits 1;
   td_enasus = has bits 2;
   td_check = has bits 3;
-  td_force = has bits 4
-  }
+  td_force = has bits 4;
+}

@@ -26,164 +26,330 @@ pub enum Call {
 #[derive(Clone, Copy)]
 pub enum TaskCall {
     /// `tk_cre_tsk`
-    CreTsk { attributes: Attributes, body: u8, priority: i32, stack: i32 },
+    CreTsk {
+        attributes: Attributes,
+        body: u8,
+        priority: i32,
+        stack: i32,
+    },
     /// `tk_del_tsk`
-    DelTsk { task: i32 },
+    DelTsk {
+        task: i32,
+    },
     /// `tk_sta_tsk`
-    StaTsk { task: i32, code: i32 },
+    StaTsk {
+        task: i32,
+        code: i32,
+    },
     /// `tk_ext_tsk`
     ExtTsk,
     /// `tk_exd_tsk`
     ExdTsk,
     /// `tk_ter_tsk`
-    TerTsk { task: i32 },
+    TerTsk {
+        task: i32,
+    },
     /// `tk_chg_pri`
-    ChgPri { task: i32, priority: i32 },
+    ChgPri {
+        task: i32,
+        priority: i32,
+    },
     /// `tk_rot_rdq`
-    RotRdq { priority: i32 },
+    RotRdq {
+        priority: i32,
+    },
     /// `tk_get_tid`
     GetTid,
     /// `tk_ref_tsk`
-    RefTsk { task: i32 },
+    RefTsk {
+        task: i32,
+    },
     /// `tk_slp_tsk`
-    SlpTsk { timeout: i32 },
+    SlpTsk {
+        timeout: i32,
+    },
     /// `tk_wup_tsk`
-    WupTsk { task: i32 },
+    WupTsk {
+        task: i32,
+    },
     /// `tk_can_wup`
-    CanWup { task: i32 },
+    CanWup {
+        task: i32,
+    },
     /// `tk_rel_wai`
-    RelWai { task: i32 },
+    RelWai {
+        task: i32,
+    },
     /// `tk_sus_tsk`
-    SusTsk { task: i32 },
+    SusTsk {
+        task: i32,
+    },
     /// `tk_rsm_tsk`
-    RsmTsk { task: i32 },
+    RsmTsk {
+        task: i32,
+    },
     /// `tk_frsm_tsk`
-    FrsmTsk { task: i32 },
+    FrsmTsk {
+        task: i32,
+    },
     /// `tk_dly_tsk`
-    DlyTsk { delay: i32 },
+    DlyTsk {
+        delay: i32,
+    },
 }
 
 /// The calls on semaphores and event flags.
 #[derive(Clone, Copy)]
 pub enum SemFlagCall {
     /// `tk_cre_sem`
-    CreSem { attributes: Attributes, count: i32, most: i32 },
+    CreSem {
+        attributes: Attributes,
+        count: i32,
+        most: i32,
+    },
     /// `tk_sig_sem`
-    SigSem { id: i32, count: i32 },
+    SigSem {
+        id: i32,
+        count: i32,
+    },
     /// `tk_wai_sem`
-    WaiSem { id: i32, count: i32, timeout: i32 },
+    WaiSem {
+        id: i32,
+        count: i32,
+        timeout: i32,
+    },
     /// `tk_ref_sem`
-    RefSem { id: i32 },
+    RefSem {
+        id: i32,
+    },
     /// `tk_cre_flg`
-    CreFlg { attributes: Attributes, pattern: i32 },
+    CreFlg {
+        attributes: Attributes,
+        pattern: i32,
+    },
     /// `tk_set_flg`
-    SetFlg { id: i32, pattern: i32 },
+    SetFlg {
+        id: i32,
+        pattern: i32,
+    },
     /// `tk_clr_flg`
-    ClrFlg { id: i32, pattern: i32 },
+    ClrFlg {
+        id: i32,
+        pattern: i32,
+    },
     /// `tk_wai_flg`
-    WaiFlg { id: i32, pattern: i32, mode: FlagMode, timeout: i32 },
+    WaiFlg {
+        id: i32,
+        pattern: i32,
+        mode: FlagMode,
+        timeout: i32,
+    },
     /// `tk_ref_flg`
-    RefFlg { id: i32 },
+    RefFlg {
+        id: i32,
+    },
     /// `tk_del_sem`
-    DelSem { id: i32 },
+    DelSem {
+        id: i32,
+    },
     /// `tk_del_flg`
-    DelFlg { id: i32 },
+    DelFlg {
+        id: i32,
+    },
 }
 
 /// The calls on mutexes.
 #[derive(Clone, Copy)]
 pub enum MutexCall {
     /// `tk_cre_mtx`
-    CreMtx { attributes: Attributes, ceiling: i32 },
+    CreMtx {
+        attributes: Attributes,
+        ceiling: i32,
+    },
     /// `tk_loc_mtx`
-    LocMtx { id: i32, timeout: i32 },
+    LocMtx {
+        id: i32,
+        timeout: i32,
+    },
     /// `tk_unl_mtx`
-    UnlMtx { id: i32 },
+    UnlMtx {
+        id: i32,
+    },
     /// `tk_ref_mtx`
-    RefMtx { id: i32 },
+    RefMtx {
+        id: i32,
+    },
     /// `tk_del_mtx`
-    DelMtx { id: i32 },
+    DelMtx {
+        id: i32,
+    },
 }
 
 /// The calls on mailboxes and message buffers.
 #[derive(Clone, Copy)]
 pub enum MailCall {
     /// `tk_cre_mbx`
-    CreMbx { attributes: Attributes },
+    CreMbx {
+        attributes: Attributes,
+    },
     /// `tk_del_mbx`
-    DelMbx { id: i32 },
+    DelMbx {
+        id: i32,
+    },
     /// `tk_snd_mbx`
-    SndMbx { id: i32, priority: i32, value: i32 },
+    SndMbx {
+        id: i32,
+        priority: i32,
+        value: i32,
+    },
     /// `tk_rcv_mbx`
-    RcvMbx { id: i32, timeout: i32 },
+    RcvMbx {
+        id: i32,
+        timeout: i32,
+    },
     /// `tk_ref_mbx`
-    RefMbx { id: i32 },
+    RefMbx {
+        id: i32,
+    },
     /// `tk_cre_mbf`
-    CreMbf { attributes: Attributes, size: i32, most: i32 },
+    CreMbf {
+        attributes: Attributes,
+        size: i32,
+        most: i32,
+    },
     /// `tk_snd_mbf`
-    SndMbf { id: i32, address: i32, length: i32, timeout: i32 },
+    SndMbf {
+        id: i32,
+        address: i32,
+        length: i32,
+        timeout: i32,
+    },
     /// `tk_rcv_mbf`
-    RcvMbf { id: i32, address: i32, timeout: i32 },
+    RcvMbf {
+        id: i32,
+        address: i32,
+        timeout: i32,
+    },
     /// `tk_ref_mbf`
-    RefMbf { id: i32 },
+    RefMbf {
+        id: i32,
+    },
     /// `tk_del_mbf`
-    DelMbf { id: i32 },
+    DelMbf {
+        id: i32,
+    },
 }
 
 /// The calls on fixed and variable memory pools.
 #[derive(Clone, Copy)]
 pub enum PoolCall {
     /// `tk_cre_mpf`
-    CreMpf { attributes: Attributes, count: i32, size: i32 },
+    CreMpf {
+        attributes: Attributes,
+        count: i32,
+        size: i32,
+    },
     /// `tk_del_mpf`
-    DelMpf { id: i32 },
+    DelMpf {
+        id: i32,
+    },
     /// `tk_get_mpf`
-    GetMpf { id: i32, timeout: i32 },
+    GetMpf {
+        id: i32,
+        timeout: i32,
+    },
     /// `tk_rel_mpf`
-    RelMpf { id: i32, block: i32 },
+    RelMpf {
+        id: i32,
+        block: i32,
+    },
     /// `tk_ref_mpf`
-    RefMpf { id: i32 },
+    RefMpf {
+        id: i32,
+    },
     /// `tk_cre_mpl`
-    CreMpl { attributes: Attributes, size: i32 },
+    CreMpl {
+        attributes: Attributes,
+        size: i32,
+    },
     /// `tk_del_mpl`
-    DelMpl { id: i32 },
+    DelMpl {
+        id: i32,
+    },
     /// `tk_get_mpl`
-    GetMpl { id: i32, size: i32, timeout: i32 },
+    GetMpl {
+        id: i32,
+        size: i32,
+        timeout: i32,
+    },
     /// `tk_rel_mpl`
-    RelMpl { id: i32, offset: i32 },
+    RelMpl {
+        id: i32,
+        offset: i32,
+    },
     /// `tk_ref_mpl`
-    RefMpl { id: i32 },
+    RefMpl {
+        id: i32,
+    },
 }
 
 /// The calls on time, cyclic handlers and alarm handlers.
 #[derive(Clone, Copy)]
 pub enum TimeCall {
     /// `tk_set_tim`
-    SetTim { high: i32, low: i32 },
+    SetTim {
+        high: i32,
+        low: i32,
+    },
     /// `tk_get_tim`
     GetTim,
     /// `tk_get_otm`
     GetOtm,
     /// `tk_cre_cyc`
-    CreCyc { attributes: Attributes, body: u8, period: i32, phase: i32 },
+    CreCyc {
+        attributes: Attributes,
+        body: u8,
+        period: i32,
+        phase: i32,
+    },
     /// `tk_sta_cyc`
-    StaCyc { id: i32 },
+    StaCyc {
+        id: i32,
+    },
     /// `tk_stp_cyc`
-    StpCyc { id: i32 },
+    StpCyc {
+        id: i32,
+    },
     /// `tk_del_cyc`
-    DelCyc { id: i32 },
+    DelCyc {
+        id: i32,
+    },
     /// `tk_ref_cyc`
-    RefCyc { id: i32 },
+    RefCyc {
+        id: i32,
+    },
     /// `tk_cre_alm`
-    CreAlm { attributes: Attributes, body: u8 },
+    CreAlm {
+        attributes: Attributes,
+        body: u8,
+    },
     /// `tk_sta_alm`
-    StaAlm { id: i32, delay: i32 },
+    StaAlm {
+        id: i32,
+        delay: i32,
+    },
     /// `tk_stp_alm`
-    StpAlm { id: i32 },
+    StpAlm {
+        id: i32,
+    },
     /// `tk_del_alm`
-    DelAlm { id: i32 },
+    DelAlm {
+        id: i32,
+    },
     /// `tk_ref_alm`
-    RefAlm { id: i32 },
+    RefAlm {
+        id: i32,
+    },
 }
 
 /// The calls on interrupts, dispatching, subsystems and extended calls.
@@ -213,74 +379,184 @@ pub enum ContextCall {
 #[derive(Clone, Copy)]
 pub enum DeviceCall {
     /// `tk_opn_dev`
-    OpnDev { device: u8, mode: OpenMode },
+    OpnDev {
+        device: u8,
+        mode: OpenMode,
+    },
     /// `tk_rea_dev`
-    ReaDev { descriptor: i32, start: i32, address: i32, size: i32, timeout: i32 },
+    ReaDev {
+        descriptor: i32,
+        start: i32,
+        address: i32,
+        size: i32,
+        timeout: i32,
+    },
     /// `tk_wri_dev`
-    WriDev { descriptor: i32, start: i32, address: i32, size: i32, timeout: i32 },
+    WriDev {
+        descriptor: i32,
+        start: i32,
+        address: i32,
+        size: i32,
+        timeout: i32,
+    },
     /// `tk_srea_dev`
-    SreaDev { descriptor: i32, start: i32, address: i32, size: i32 },
+    SreaDev {
+        descriptor: i32,
+        start: i32,
+        address: i32,
+        size: i32,
+    },
     /// `tk_swri_dev`
-    SwriDev { descriptor: i32, start: i32, address: i32, size: i32 },
+    SwriDev {
+        descriptor: i32,
+        start: i32,
+        address: i32,
+        size: i32,
+    },
     /// `tk_wai_dev`
-    WaiDev { descriptor: i32, request: i32, timeout: i32 },
+    WaiDev {
+        descriptor: i32,
+        request: i32,
+        timeout: i32,
+    },
     /// `tk_cls_dev`
-    ClsDev { descriptor: i32 },
+    ClsDev {
+        descriptor: i32,
+    },
     /// `tk_sus_dev`
-    SusDev { mode: SuspendMode },
+    SusDev {
+        mode: SuspendMode,
+    },
     /// `tk_ref_dev`
-    RefDev { device: u8 },
+    RefDev {
+        device: u8,
+    },
 }
 
 /// The calls that show lists and queues, and those that set hooks.
 #[derive(Clone, Copy)]
 pub enum HookCall {
     /// `td_lst_tsk`
-    LstTsk { address: i32, most: i32 },
+    LstTsk {
+        address: i32,
+        most: i32,
+    },
     /// `td_lst_sem`
-    LstSem { address: i32, most: i32 },
+    LstSem {
+        address: i32,
+        most: i32,
+    },
     /// `td_lst_flg`
-    LstFlg { address: i32, most: i32 },
+    LstFlg {
+        address: i32,
+        most: i32,
+    },
     /// `td_lst_mbx`
-    LstMbx { address: i32, most: i32 },
+    LstMbx {
+        address: i32,
+        most: i32,
+    },
     /// `td_lst_mtx`
-    LstMtx { address: i32, most: i32 },
+    LstMtx {
+        address: i32,
+        most: i32,
+    },
     /// `td_lst_mbf`
-    LstMbf { address: i32, most: i32 },
+    LstMbf {
+        address: i32,
+        most: i32,
+    },
     /// `td_lst_mpf`
-    LstMpf { address: i32, most: i32 },
+    LstMpf {
+        address: i32,
+        most: i32,
+    },
     /// `td_lst_mpl`
-    LstMpl { address: i32, most: i32 },
+    LstMpl {
+        address: i32,
+        most: i32,
+    },
     /// `td_lst_cyc`
-    LstCyc { address: i32, most: i32 },
+    LstCyc {
+        address: i32,
+        most: i32,
+    },
     /// `td_lst_alm`
-    LstAlm { address: i32, most: i32 },
+    LstAlm {
+        address: i32,
+        most: i32,
+    },
     /// `td_lst_ssy`
-    LstSsy { address: i32, most: i32 },
+    LstSsy {
+        address: i32,
+        most: i32,
+    },
     /// `td_rdy_que`
-    RdyQue { priority: i32, address: i32, most: i32 },
+    RdyQue {
+        priority: i32,
+        address: i32,
+        most: i32,
+    },
     /// `td_sem_que`
-    SemQue { id: i32, address: i32, most: i32 },
+    SemQue {
+        id: i32,
+        address: i32,
+        most: i32,
+    },
     /// `td_flg_que`
-    FlgQue { id: i32, address: i32, most: i32 },
+    FlgQue {
+        id: i32,
+        address: i32,
+        most: i32,
+    },
     /// `td_mbx_que`
-    MbxQue { id: i32, address: i32, most: i32 },
+    MbxQue {
+        id: i32,
+        address: i32,
+        most: i32,
+    },
     /// `td_mtx_que`
-    MtxQue { id: i32, address: i32, most: i32 },
+    MtxQue {
+        id: i32,
+        address: i32,
+        most: i32,
+    },
     /// `td_smbf_que`
-    SmbfQue { id: i32, address: i32, most: i32 },
+    SmbfQue {
+        id: i32,
+        address: i32,
+        most: i32,
+    },
     /// `td_rmbf_que`
-    RmbfQue { id: i32, address: i32, most: i32 },
+    RmbfQue {
+        id: i32,
+        address: i32,
+        most: i32,
+    },
     /// `td_mpf_que`
-    MpfQue { id: i32, address: i32, most: i32 },
+    MpfQue {
+        id: i32,
+        address: i32,
+        most: i32,
+    },
     /// `td_mpl_que`
-    MplQue { id: i32, address: i32, most: i32 },
+    MplQue {
+        id: i32,
+        address: i32,
+        most: i32,
+    },
     /// `td_hok_svc`
-    HokSvc { value: i32 },
+    HokSvc {
+        value: i32,
+    },
     /// `td_hok_dsp`
-    HokDsp { value: i32 },
+    HokDsp {
+        value: i32,
+    },
     /// `td_hok_int`
-    HokInt { value: i32 },
+    HokInt {
+        value: i32,
+    },
 }
 
 impl Call {
@@ -291,114 +567,401 @@ impl Call {
         ensures { result ≡ made name args.now }
     {
         match name {
-            CallName::TkCreTsk => Call::Task(TaskCall::CreTsk { attributes: Attributes::of_bits(args[0]), body: (args[1] % 256) as u8, priority: args[2].cast_signed(), stack: args[3].cast_signed() }),
-            CallName::TkDelTsk => Call::Task(TaskCall::DelTsk { task: args[0].cast_signed() }),
-            CallName::TkStaTsk => Call::Task(TaskCall::StaTsk { task: args[0].cast_signed(), code: args[1].cast_signed() }),
+            CallName::TkCreTsk => Call::Task(TaskCall::CreTsk {
+                attributes: Attributes::of_bits(args[0]),
+                body: (args[1] % 256) as u8,
+                priority: args[2].cast_signed(),
+                stack: args[3].cast_signed(),
+            }),
+            CallName::TkDelTsk => Call::Task(TaskCall::DelTsk {
+                task: args[0].cast_signed(),
+            }),
+            CallName::TkStaTsk => Call::Task(TaskCall::StaTsk {
+                task: args[0].cast_signed(),
+                code: args[1].cast_signed(),
+            }),
             CallName::TkExtTsk => Call::Task(TaskCall::ExtTsk),
             CallName::TkExdTsk => Call::Task(TaskCall::ExdTsk),
-            CallName::TkTerTsk => Call::Task(TaskCall::TerTsk { task: args[0].cast_signed() }),
-            CallName::TkChgPri => Call::Task(TaskCall::ChgPri { task: args[0].cast_signed(), priority: args[1].cast_signed() }),
-            CallName::TkRotRdq => Call::Task(TaskCall::RotRdq { priority: args[0].cast_signed() }),
+            CallName::TkTerTsk => Call::Task(TaskCall::TerTsk {
+                task: args[0].cast_signed(),
+            }),
+            CallName::TkChgPri => Call::Task(TaskCall::ChgPri {
+                task: args[0].cast_signed(),
+                priority: args[1].cast_signed(),
+            }),
+            CallName::TkRotRdq => Call::Task(TaskCall::RotRdq {
+                priority: args[0].cast_signed(),
+            }),
             CallName::TkGetTid => Call::Task(TaskCall::GetTid),
-            CallName::TkRefTsk => Call::Task(TaskCall::RefTsk { task: args[0].cast_signed() }),
-            CallName::TkSlpTsk => Call::Task(TaskCall::SlpTsk { timeout: args[0].cast_signed() }),
-            CallName::TkWupTsk => Call::Task(TaskCall::WupTsk { task: args[0].cast_signed() }),
-            CallName::TkCanWup => Call::Task(TaskCall::CanWup { task: args[0].cast_signed() }),
-            CallName::TkRelWai => Call::Task(TaskCall::RelWai { task: args[0].cast_signed() }),
-            CallName::TkSusTsk => Call::Task(TaskCall::SusTsk { task: args[0].cast_signed() }),
-            CallName::TkRsmTsk => Call::Task(TaskCall::RsmTsk { task: args[0].cast_signed() }),
-            CallName::TkFrsmTsk => Call::Task(TaskCall::FrsmTsk { task: args[0].cast_signed() }),
-            CallName::TkDlyTsk => Call::Task(TaskCall::DlyTsk { delay: args[0].cast_signed() }),
-            CallName::TkCreSem => Call::SemFlag(SemFlagCall::CreSem { attributes: Attributes::of_bits(args[0]), count: args[1].cast_signed(), most: args[2].cast_signed() }),
-            CallName::TkSigSem => Call::SemFlag(SemFlagCall::SigSem { id: args[0].cast_signed(), count: args[1].cast_signed() }),
-            CallName::TkWaiSem => Call::SemFlag(SemFlagCall::WaiSem { id: args[0].cast_signed(), count: args[1].cast_signed(), timeout: args[2].cast_signed() }),
-            CallName::TkRefSem => Call::SemFlag(SemFlagCall::RefSem { id: args[0].cast_signed() }),
-            CallName::TkCreFlg => Call::SemFlag(SemFlagCall::CreFlg { attributes: Attributes::of_bits(args[0]), pattern: args[1].cast_signed() }),
-            CallName::TkSetFlg => Call::SemFlag(SemFlagCall::SetFlg { id: args[0].cast_signed(), pattern: args[1].cast_signed() }),
-            CallName::TkClrFlg => Call::SemFlag(SemFlagCall::ClrFlg { id: args[0].cast_signed(), pattern: args[1].cast_signed() }),
-            CallName::TkWaiFlg => Call::SemFlag(SemFlagCall::WaiFlg { id: args[0].cast_signed(), pattern: args[1].cast_signed(), mode: FlagMode::of_bits(args[2]), timeout: args[3].cast_signed() }),
-            CallName::TkRefFlg => Call::SemFlag(SemFlagCall::RefFlg { id: args[0].cast_signed() }),
-            CallName::TkDelSem => Call::SemFlag(SemFlagCall::DelSem { id: args[0].cast_signed() }),
-            CallName::TkDelFlg => Call::SemFlag(SemFlagCall::DelFlg { id: args[0].cast_signed() }),
-            CallName::TkCreMtx => Call::Mutex(MutexCall::CreMtx { attributes: Attributes::of_bits(args[0]), ceiling: args[1].cast_signed() }),
-            CallName::TkLocMtx => Call::Mutex(MutexCall::LocMtx { id: args[0].cast_signed(), timeout: args[1].cast_signed() }),
-            CallName::TkUnlMtx => Call::Mutex(MutexCall::UnlMtx { id: args[0].cast_signed() }),
-            CallName::TkRefMtx => Call::Mutex(MutexCall::RefMtx { id: args[0].cast_signed() }),
-            CallName::TkDelMtx => Call::Mutex(MutexCall::DelMtx { id: args[0].cast_signed() }),
-            CallName::TkCreMbx => Call::Mail(MailCall::CreMbx { attributes: Attributes::of_bits(args[0]) }),
-            CallName::TkDelMbx => Call::Mail(MailCall::DelMbx { id: args[0].cast_signed() }),
-            CallName::TkSndMbx => Call::Mail(MailCall::SndMbx { id: args[0].cast_signed(), priority: args[1].cast_signed(), value: args[2].cast_signed() }),
-            CallName::TkRcvMbx => Call::Mail(MailCall::RcvMbx { id: args[0].cast_signed(), timeout: args[1].cast_signed() }),
-            CallName::TkRefMbx => Call::Mail(MailCall::RefMbx { id: args[0].cast_signed() }),
-            CallName::TkCreMbf => Call::Mail(MailCall::CreMbf { attributes: Attributes::of_bits(args[0]), size: args[1].cast_signed(), most: args[2].cast_signed() }),
-            CallName::TkSndMbf => Call::Mail(MailCall::SndMbf { id: args[0].cast_signed(), address: args[1].cast_signed(), length: args[2].cast_signed(), timeout: args[3].cast_signed() }),
-            CallName::TkRcvMbf => Call::Mail(MailCall::RcvMbf { id: args[0].cast_signed(), address: args[1].cast_signed(), timeout: args[2].cast_signed() }),
-            CallName::TkRefMbf => Call::Mail(MailCall::RefMbf { id: args[0].cast_signed() }),
-            CallName::TkDelMbf => Call::Mail(MailCall::DelMbf { id: args[0].cast_signed() }),
-            CallName::TkCreMpf => Call::Pool(PoolCall::CreMpf { attributes: Attributes::of_bits(args[0]), count: args[1].cast_signed(), size: args[2].cast_signed() }),
-            CallName::TkDelMpf => Call::Pool(PoolCall::DelMpf { id: args[0].cast_signed() }),
-            CallName::TkGetMpf => Call::Pool(PoolCall::GetMpf { id: args[0].cast_signed(), timeout: args[1].cast_signed() }),
-            CallName::TkRelMpf => Call::Pool(PoolCall::RelMpf { id: args[0].cast_signed(), block: args[1].cast_signed() }),
-            CallName::TkRefMpf => Call::Pool(PoolCall::RefMpf { id: args[0].cast_signed() }),
-            CallName::TkCreMpl => Call::Pool(PoolCall::CreMpl { attributes: Attributes::of_bits(args[0]), size: args[1].cast_signed() }),
-            CallName::TkDelMpl => Call::Pool(PoolCall::DelMpl { id: args[0].cast_signed() }),
-            CallName::TkGetMpl => Call::Pool(PoolCall::GetMpl { id: args[0].cast_signed(), size: args[1].cast_signed(), timeout: args[2].cast_signed() }),
-            CallName::TkRelMpl => Call::Pool(PoolCall::RelMpl { id: args[0].cast_signed(), offset: args[1].cast_signed() }),
-            CallName::TkRefMpl => Call::Pool(PoolCall::RefMpl { id: args[0].cast_signed() }),
-            CallName::TkSetTim => Call::Time(TimeCall::SetTim { high: args[0].cast_signed(), low: args[1].cast_signed() }),
+            CallName::TkRefTsk => Call::Task(TaskCall::RefTsk {
+                task: args[0].cast_signed(),
+            }),
+            CallName::TkSlpTsk => Call::Task(TaskCall::SlpTsk {
+                timeout: args[0].cast_signed(),
+            }),
+            CallName::TkWupTsk => Call::Task(TaskCall::WupTsk {
+                task: args[0].cast_signed(),
+            }),
+            CallName::TkCanWup => Call::Task(TaskCall::CanWup {
+                task: args[0].cast_signed(),
+            }),
+            CallName::TkRelWai => Call::Task(TaskCall::RelWai {
+                task: args[0].cast_signed(),
+            }),
+            CallName::TkSusTsk => Call::Task(TaskCall::SusTsk {
+                task: args[0].cast_signed(),
+            }),
+            CallName::TkRsmTsk => Call::Task(TaskCall::RsmTsk {
+                task: args[0].cast_signed(),
+            }),
+            CallName::TkFrsmTsk => Call::Task(TaskCall::FrsmTsk {
+                task: args[0].cast_signed(),
+            }),
+            CallName::TkDlyTsk => Call::Task(TaskCall::DlyTsk {
+                delay: args[0].cast_signed(),
+            }),
+            CallName::TkCreSem => Call::SemFlag(SemFlagCall::CreSem {
+                attributes: Attributes::of_bits(args[0]),
+                count: args[1].cast_signed(),
+                most: args[2].cast_signed(),
+            }),
+            CallName::TkSigSem => Call::SemFlag(SemFlagCall::SigSem {
+                id: args[0].cast_signed(),
+                count: args[1].cast_signed(),
+            }),
+            CallName::TkWaiSem => Call::SemFlag(SemFlagCall::WaiSem {
+                id: args[0].cast_signed(),
+                count: args[1].cast_signed(),
+                timeout: args[2].cast_signed(),
+            }),
+            CallName::TkRefSem => Call::SemFlag(SemFlagCall::RefSem {
+                id: args[0].cast_signed(),
+            }),
+            CallName::TkCreFlg => Call::SemFlag(SemFlagCall::CreFlg {
+                attributes: Attributes::of_bits(args[0]),
+                pattern: args[1].cast_signed(),
+            }),
+            CallName::TkSetFlg => Call::SemFlag(SemFlagCall::SetFlg {
+                id: args[0].cast_signed(),
+                pattern: args[1].cast_signed(),
+            }),
+            CallName::TkClrFlg => Call::SemFlag(SemFlagCall::ClrFlg {
+                id: args[0].cast_signed(),
+                pattern: args[1].cast_signed(),
+            }),
+            CallName::TkWaiFlg => Call::SemFlag(SemFlagCall::WaiFlg {
+                id: args[0].cast_signed(),
+                pattern: args[1].cast_signed(),
+                mode: FlagMode::of_bits(args[2]),
+                timeout: args[3].cast_signed(),
+            }),
+            CallName::TkRefFlg => Call::SemFlag(SemFlagCall::RefFlg {
+                id: args[0].cast_signed(),
+            }),
+            CallName::TkDelSem => Call::SemFlag(SemFlagCall::DelSem {
+                id: args[0].cast_signed(),
+            }),
+            CallName::TkDelFlg => Call::SemFlag(SemFlagCall::DelFlg {
+                id: args[0].cast_signed(),
+            }),
+            CallName::TkCreMtx => Call::Mutex(MutexCall::CreMtx {
+                attributes: Attributes::of_bits(args[0]),
+                ceiling: args[1].cast_signed(),
+            }),
+            CallName::TkLocMtx => Call::Mutex(MutexCall::LocMtx {
+                id: args[0].cast_signed(),
+                timeout: args[1].cast_signed(),
+            }),
+            CallName::TkUnlMtx => Call::Mutex(MutexCall::UnlMtx {
+                id: args[0].cast_signed(),
+            }),
+            CallName::TkRefMtx => Call::Mutex(MutexCall::RefMtx {
+                id: args[0].cast_signed(),
+            }),
+            CallName::TkDelMtx => Call::Mutex(MutexCall::DelMtx {
+                id: args[0].cast_signed(),
+            }),
+            CallName::TkCreMbx => Call::Mail(MailCall::CreMbx {
+                attributes: Attributes::of_bits(args[0]),
+            }),
+            CallName::TkDelMbx => Call::Mail(MailCall::DelMbx {
+                id: args[0].cast_signed(),
+            }),
+            CallName::TkSndMbx => Call::Mail(MailCall::SndMbx {
+                id: args[0].cast_signed(),
+                priority: args[1].cast_signed(),
+                value: args[2].cast_signed(),
+            }),
+            CallName::TkRcvMbx => Call::Mail(MailCall::RcvMbx {
+                id: args[0].cast_signed(),
+                timeout: args[1].cast_signed(),
+            }),
+            CallName::TkRefMbx => Call::Mail(MailCall::RefMbx {
+                id: args[0].cast_signed(),
+            }),
+            CallName::TkCreMbf => Call::Mail(MailCall::CreMbf {
+                attributes: Attributes::of_bits(args[0]),
+                size: args[1].cast_signed(),
+                most: args[2].cast_signed(),
+            }),
+            CallName::TkSndMbf => Call::Mail(MailCall::SndMbf {
+                id: args[0].cast_signed(),
+                address: args[1].cast_signed(),
+                length: args[2].cast_signed(),
+                timeout: args[3].cast_signed(),
+            }),
+            CallName::TkRcvMbf => Call::Mail(MailCall::RcvMbf {
+                id: args[0].cast_signed(),
+                address: args[1].cast_signed(),
+                timeout: args[2].cast_signed(),
+            }),
+            CallName::TkRefMbf => Call::Mail(MailCall::RefMbf {
+                id: args[0].cast_signed(),
+            }),
+            CallName::TkDelMbf => Call::Mail(MailCall::DelMbf {
+                id: args[0].cast_signed(),
+            }),
+            CallName::TkCreMpf => Call::Pool(PoolCall::CreMpf {
+                attributes: Attributes::of_bits(args[0]),
+                count: args[1].cast_signed(),
+                size: args[2].cast_signed(),
+            }),
+            CallName::TkDelMpf => Call::Pool(PoolCall::DelMpf {
+                id: args[0].cast_signed(),
+            }),
+            CallName::TkGetMpf => Call::Pool(PoolCall::GetMpf {
+                id: args[0].cast_signed(),
+                timeout: args[1].cast_signed(),
+            }),
+            CallName::TkRelMpf => Call::Pool(PoolCall::RelMpf {
+                id: args[0].cast_signed(),
+                block: args[1].cast_signed(),
+            }),
+            CallName::TkRefMpf => Call::Pool(PoolCall::RefMpf {
+                id: args[0].cast_signed(),
+            }),
+            CallName::TkCreMpl => Call::Pool(PoolCall::CreMpl {
+                attributes: Attributes::of_bits(args[0]),
+                size: args[1].cast_signed(),
+            }),
+            CallName::TkDelMpl => Call::Pool(PoolCall::DelMpl {
+                id: args[0].cast_signed(),
+            }),
+            CallName::TkGetMpl => Call::Pool(PoolCall::GetMpl {
+                id: args[0].cast_signed(),
+                size: args[1].cast_signed(),
+                timeout: args[2].cast_signed(),
+            }),
+            CallName::TkRelMpl => Call::Pool(PoolCall::RelMpl {
+                id: args[0].cast_signed(),
+                offset: args[1].cast_signed(),
+            }),
+            CallName::TkRefMpl => Call::Pool(PoolCall::RefMpl {
+                id: args[0].cast_signed(),
+            }),
+            CallName::TkSetTim => Call::Time(TimeCall::SetTim {
+                high: args[0].cast_signed(),
+                low: args[1].cast_signed(),
+            }),
             CallName::TkGetTim => Call::Time(TimeCall::GetTim),
             CallName::TkGetOtm => Call::Time(TimeCall::GetOtm),
-            CallName::TkCreCyc => Call::Time(TimeCall::CreCyc { attributes: Attributes::of_bits(args[0]), body: (args[1] % 256) as u8, period: args[2].cast_signed(), phase: args[3].cast_signed() }),
-            CallName::TkStaCyc => Call::Time(TimeCall::StaCyc { id: args[0].cast_signed() }),
-            CallName::TkStpCyc => Call::Time(TimeCall::StpCyc { id: args[0].cast_signed() }),
-            CallName::TkDelCyc => Call::Time(TimeCall::DelCyc { id: args[0].cast_signed() }),
-            CallName::TkRefCyc => Call::Time(TimeCall::RefCyc { id: args[0].cast_signed() }),
-            CallName::TkCreAlm => Call::Time(TimeCall::CreAlm { attributes: Attributes::of_bits(args[0]), body: (args[1] % 256) as u8 }),
-            CallName::TkStaAlm => Call::Time(TimeCall::StaAlm { id: args[0].cast_signed(), delay: args[1].cast_signed() }),
-            CallName::TkStpAlm => Call::Time(TimeCall::StpAlm { id: args[0].cast_signed() }),
-            CallName::TkDelAlm => Call::Time(TimeCall::DelAlm { id: args[0].cast_signed() }),
-            CallName::TkRefAlm => Call::Time(TimeCall::RefAlm { id: args[0].cast_signed() }),
-            CallName::TkDefInt => Call::Context(ContextCall::DefInt { number: args[0].cast_signed(), body: (args[1] % 256) as u8 }),
+            CallName::TkCreCyc => Call::Time(TimeCall::CreCyc {
+                attributes: Attributes::of_bits(args[0]),
+                body: (args[1] % 256) as u8,
+                period: args[2].cast_signed(),
+                phase: args[3].cast_signed(),
+            }),
+            CallName::TkStaCyc => Call::Time(TimeCall::StaCyc {
+                id: args[0].cast_signed(),
+            }),
+            CallName::TkStpCyc => Call::Time(TimeCall::StpCyc {
+                id: args[0].cast_signed(),
+            }),
+            CallName::TkDelCyc => Call::Time(TimeCall::DelCyc {
+                id: args[0].cast_signed(),
+            }),
+            CallName::TkRefCyc => Call::Time(TimeCall::RefCyc {
+                id: args[0].cast_signed(),
+            }),
+            CallName::TkCreAlm => Call::Time(TimeCall::CreAlm {
+                attributes: Attributes::of_bits(args[0]),
+                body: (args[1] % 256) as u8,
+            }),
+            CallName::TkStaAlm => Call::Time(TimeCall::StaAlm {
+                id: args[0].cast_signed(),
+                delay: args[1].cast_signed(),
+            }),
+            CallName::TkStpAlm => Call::Time(TimeCall::StpAlm {
+                id: args[0].cast_signed(),
+            }),
+            CallName::TkDelAlm => Call::Time(TimeCall::DelAlm {
+                id: args[0].cast_signed(),
+            }),
+            CallName::TkRefAlm => Call::Time(TimeCall::RefAlm {
+                id: args[0].cast_signed(),
+            }),
+            CallName::TkDefInt => Call::Context(ContextCall::DefInt {
+                number: args[0].cast_signed(),
+                body: (args[1] % 256) as u8,
+            }),
             CallName::TkDisDsp => Call::Context(ContextCall::DisDsp),
             CallName::TkEnaDsp => Call::Context(ContextCall::EnaDsp),
             CallName::Di => Call::Context(ContextCall::Di),
             CallName::Ei => Call::Context(ContextCall::Ei),
             CallName::TkRefSys => Call::Context(ContextCall::RefSys),
-            CallName::TkDefSsy => Call::Context(ContextCall::DefSsy { number: args[0].cast_signed(), body: (args[1] % 256) as u8 }),
-            CallName::TkRefSsy => Call::Context(ContextCall::RefSsy { number: args[0].cast_signed() }),
-            CallName::Svc => Call::Context(ContextCall::Svc { number: args[0].cast_signed(), value: args[1].cast_signed() }),
-            CallName::TkOpnDev => Call::Device(DeviceCall::OpnDev { device: (args[0] % 256) as u8, mode: OpenMode::of_bits(args[1]) }),
-            CallName::TkReaDev => Call::Device(DeviceCall::ReaDev { descriptor: args[0].cast_signed(), start: args[1].cast_signed(), address: args[2].cast_signed(), size: args[3].cast_signed(), timeout: args[4].cast_signed() }),
-            CallName::TkWriDev => Call::Device(DeviceCall::WriDev { descriptor: args[0].cast_signed(), start: args[1].cast_signed(), address: args[2].cast_signed(), size: args[3].cast_signed(), timeout: args[4].cast_signed() }),
-            CallName::TkSreaDev => Call::Device(DeviceCall::SreaDev { descriptor: args[0].cast_signed(), start: args[1].cast_signed(), address: args[2].cast_signed(), size: args[3].cast_signed() }),
-            CallName::TkSwriDev => Call::Device(DeviceCall::SwriDev { descriptor: args[0].cast_signed(), start: args[1].cast_signed(), address: args[2].cast_signed(), size: args[3].cast_signed() }),
-            CallName::TkWaiDev => Call::Device(DeviceCall::WaiDev { descriptor: args[0].cast_signed(), request: args[1].cast_signed(), timeout: args[2].cast_signed() }),
-            CallName::TkClsDev => Call::Device(DeviceCall::ClsDev { descriptor: args[0].cast_signed() }),
-            CallName::TkSusDev => Call::Device(DeviceCall::SusDev { mode: SuspendMode::of_bits(args[0]) }),
-            CallName::TkRefDev => Call::Device(DeviceCall::RefDev { device: (args[0] % 256) as u8 }),
-            CallName::TdLstTsk => Call::Hook(HookCall::LstTsk { address: args[0].cast_signed(), most: args[1].cast_signed() }),
-            CallName::TdLstSem => Call::Hook(HookCall::LstSem { address: args[0].cast_signed(), most: args[1].cast_signed() }),
-            CallName::TdLstFlg => Call::Hook(HookCall::LstFlg { address: args[0].cast_signed(), most: args[1].cast_signed() }),
-            CallName::TdLstMbx => Call::Hook(HookCall::LstMbx { address: args[0].cast_signed(), most: args[1].cast_signed() }),
-            CallName::TdLstMtx => Call::Hook(HookCall::LstMtx { address: args[0].cast_signed(), most: args[1].cast_signed() }),
-            CallName::TdLstMbf => Call::Hook(HookCall::LstMbf { address: args[0].cast_signed(), most: args[1].cast_signed() }),
-            CallName::TdLstMpf => Call::Hook(HookCall::LstMpf { address: args[0].cast_signed(), most: args[1].cast_signed() }),
-            CallName::TdLstMpl => Call::Hook(HookCall::LstMpl { address: args[0].cast_signed(), most: args[1].cast_signed() }),
-            CallName::TdLstCyc => Call::Hook(HookCall::LstCyc { address: args[0].cast_signed(), most: args[1].cast_signed() }),
-            CallName::TdLstAlm => Call::Hook(HookCall::LstAlm { address: args[0].cast_signed(), most: args[1].cast_signed() }),
-            CallName::TdLstSsy => Call::Hook(HookCall::LstSsy { address: args[0].cast_signed(), most: args[1].cast_signed() }),
-            CallName::TdRdyQue => Call::Hook(HookCall::RdyQue { priority: args[0].cast_signed(), address: args[1].cast_signed(), most: args[2].cast_signed() }),
-            CallName::TdSemQue => Call::Hook(HookCall::SemQue { id: args[0].cast_signed(), address: args[1].cast_signed(), most: args[2].cast_signed() }),
-            CallName::TdFlgQue => Call::Hook(HookCall::FlgQue { id: args[0].cast_signed(), address: args[1].cast_signed(), most: args[2].cast_signed() }),
-            CallName::TdMbxQue => Call::Hook(HookCall::MbxQue { id: args[0].cast_signed(), address: args[1].cast_signed(), most: args[2].cast_signed() }),
-            CallName::TdMtxQue => Call::Hook(HookCall::MtxQue { id: args[0].cast_signed(), address: args[1].cast_signed(), most: args[2].cast_signed() }),
-            CallName::TdSmbfQue => Call::Hook(HookCall::SmbfQue { id: args[0].cast_signed(), address: args[1].cast_signed(), most: args[2].cast_signed() }),
-            CallName::TdRmbfQue => Call::Hook(HookCall::RmbfQue { id: args[0].cast_signed(), address: args[1].cast_signed(), most: args[2].cast_signed() }),
-            CallName::TdMpfQue => Call::Hook(HookCall::MpfQue { id: args[0].cast_signed(), address: args[1].cast_signed(), most: args[2].cast_signed() }),
-            CallName::TdMplQue => Call::Hook(HookCall::MplQue { id: args[0].cast_signed(), address: args[1].cast_signed(), most: args[2].cast_signed() }),
-            CallName::TdHokSvc => Call::Hook(HookCall::HokSvc { value: args[0].cast_signed() }),
-            CallName::TdHokDsp => Call::Hook(HookCall::HokDsp { value: args[0].cast_signed() }),
-            CallName::TdHokInt => Call::Hook(HookCall::HokInt { value: args[0].cast_signed() }),
+            CallName::TkDefSsy => Call::Context(ContextCall::DefSsy {
+                number: args[0].cast_signed(),
+                body: (args[1] % 256) as u8,
+            }),
+            CallName::TkRefSsy => Call::Context(ContextCall::RefSsy {
+                number: args[0].cast_signed(),
+            }),
+            CallName::Svc => Call::Context(ContextCall::Svc {
+                number: args[0].cast_signed(),
+                value: args[1].cast_signed(),
+            }),
+            CallName::TkOpnDev => Call::Device(DeviceCall::OpnDev {
+                device: (args[0] % 256) as u8,
+                mode: OpenMode::of_bits(args[1]),
+            }),
+            CallName::TkReaDev => Call::Device(DeviceCall::ReaDev {
+                descriptor: args[0].cast_signed(),
+                start: args[1].cast_signed(),
+                address: args[2].cast_signed(),
+                size: args[3].cast_signed(),
+                timeout: args[4].cast_signed(),
+            }),
+            CallName::TkWriDev => Call::Device(DeviceCall::WriDev {
+                descriptor: args[0].cast_signed(),
+                start: args[1].cast_signed(),
+                address: args[2].cast_signed(),
+                size: args[3].cast_signed(),
+                timeout: args[4].cast_signed(),
+            }),
+            CallName::TkSreaDev => Call::Device(DeviceCall::SreaDev {
+                descriptor: args[0].cast_signed(),
+                start: args[1].cast_signed(),
+                address: args[2].cast_signed(),
+                size: args[3].cast_signed(),
+            }),
+            CallName::TkSwriDev => Call::Device(DeviceCall::SwriDev {
+                descriptor: args[0].cast_signed(),
+                start: args[1].cast_signed(),
+                address: args[2].cast_signed(),
+                size: args[3].cast_signed(),
+            }),
+            CallName::TkWaiDev => Call::Device(DeviceCall::WaiDev {
+                descriptor: args[0].cast_signed(),
+                request: args[1].cast_signed(),
+                timeout: args[2].cast_signed(),
+            }),
+            CallName::TkClsDev => Call::Device(DeviceCall::ClsDev {
+                descriptor: args[0].cast_signed(),
+            }),
+            CallName::TkSusDev => Call::Device(DeviceCall::SusDev {
+                mode: SuspendMode::of_bits(args[0]),
+            }),
+            CallName::TkRefDev => Call::Device(DeviceCall::RefDev {
+                device: (args[0] % 256) as u8,
+            }),
+            CallName::TdLstTsk => Call::Hook(HookCall::LstTsk {
+                address: args[0].cast_signed(),
+                most: args[1].cast_signed(),
+            }),
+            CallName::TdLstSem => Call::Hook(HookCall::LstSem {
+                address: args[0].cast_signed(),
+                most: args[1].cast_signed(),
+            }),
+            CallName::TdLstFlg => Call::Hook(HookCall::LstFlg {
+                address: args[0].cast_signed(),
+                most: args[1].cast_signed(),
+            }),
+            CallName::TdLstMbx => Call::Hook(HookCall::LstMbx {
+                address: args[0].cast_signed(),
+                most: args[1].cast_signed(),
+            }),
+            CallName::TdLstMtx => Call::Hook(HookCall::LstMtx {
+                address: args[0].cast_signed(),
+                most: args[1].cast_signed(),
+            }),
+            CallName::TdLstMbf => Call::Hook(HookCall::LstMbf {
+                address: args[0].cast_signed(),
+                most: args[1].cast_signed(),
+            }),
+            CallName::TdLstMpf => Call::Hook(HookCall::LstMpf {
+                address: args[0].cast_signed(),
+                most: args[1].cast_signed(),
+            }),
+            CallName::TdLstMpl => Call::Hook(HookCall::LstMpl {
+                address: args[0].cast_signed(),
+                most: args[1].cast_signed(),
+            }),
+            CallName::TdLstCyc => Call::Hook(HookCall::LstCyc {
+                address: args[0].cast_signed(),
+                most: args[1].cast_signed(),
+            }),
+            CallName::TdLstAlm => Call::Hook(HookCall::LstAlm {
+                address: args[0].cast_signed(),
+                most: args[1].cast_signed(),
+            }),
+            CallName::TdLstSsy => Call::Hook(HookCall::LstSsy {
+                address: args[0].cast_signed(),
+                most: args[1].cast_signed(),
+            }),
+            CallName::TdRdyQue => Call::Hook(HookCall::RdyQue {
+                priority: args[0].cast_signed(),
+                address: args[1].cast_signed(),
+                most: args[2].cast_signed(),
+            }),
+            CallName::TdSemQue => Call::Hook(HookCall::SemQue {
+                id: args[0].cast_signed(),
+                address: args[1].cast_signed(),
+                most: args[2].cast_signed(),
+            }),
+            CallName::TdFlgQue => Call::Hook(HookCall::FlgQue {
+                id: args[0].cast_signed(),
+                address: args[1].cast_signed(),
+                most: args[2].cast_signed(),
+            }),
+            CallName::TdMbxQue => Call::Hook(HookCall::MbxQue {
+                id: args[0].cast_signed(),
+                address: args[1].cast_signed(),
+                most: args[2].cast_signed(),
+            }),
+            CallName::TdMtxQue => Call::Hook(HookCall::MtxQue {
+                id: args[0].cast_signed(),
+                address: args[1].cast_signed(),
+                most: args[2].cast_signed(),
+            }),
+            CallName::TdSmbfQue => Call::Hook(HookCall::SmbfQue {
+                id: args[0].cast_signed(),
+                address: args[1].cast_signed(),
+                most: args[2].cast_signed(),
+            }),
+            CallName::TdRmbfQue => Call::Hook(HookCall::RmbfQue {
+                id: args[0].cast_signed(),
+                address: args[1].cast_signed(),
+                most: args[2].cast_signed(),
+            }),
+            CallName::TdMpfQue => Call::Hook(HookCall::MpfQue {
+                id: args[0].cast_signed(),
+                address: args[1].cast_signed(),
+                most: args[2].cast_signed(),
+            }),
+            CallName::TdMplQue => Call::Hook(HookCall::MplQue {
+                id: args[0].cast_signed(),
+                address: args[1].cast_signed(),
+                most: args[2].cast_signed(),
+            }),
+            CallName::TdHokSvc => Call::Hook(HookCall::HokSvc {
+                value: args[0].cast_signed(),
+            }),
+            CallName::TdHokDsp => Call::Hook(HookCall::HokDsp {
+                value: args[0].cast_signed(),
+            }),
+            CallName::TdHokInt => Call::Hook(HookCall::HokInt {
+                value: args[0].cast_signed(),
+            }),
         }
     }
 

@@ -78,12 +78,7 @@ impl Attributes {
 }
 
 /// The words of this list in their order; bit k of a number is the word in place k.
-pub static FLAG_MODE_WORDS: [&str; 4] = [
-    "TWF_ANDW",
-    "TWF_ORW",
-    "TWF_CLR",
-    "TWF_BITCLR",
-];
+pub static FLAG_MODE_WORDS: [&str; 4] = ["TWF_ANDW", "TWF_ORW", "TWF_CLR", "TWF_BITCLR"];
 
 /// How a task waits for an event flag. Each field tells whether its word is in the list.
 #[derive(Clone, Copy, Debug, PartialEq, Eq)]
