@@ -1,22 +1,22 @@
 -- The words of the reasons for which a text is refused.
 use Rattle.std.specs.Prelude.{ℕ, List, codes}
 use Rattle.tk_types.specs.declared.why.Why.{Why}
-use Rattle.tk_types.specs.declared.why.Why.TheVariants.{Long, Byte, Line, Head, Order, Word, Count, Number, Name, List, End, Unknown, Kind, Journal, Trace, Later}
+use Rattle.tk_types.specs.declared.why.Why.TheVariants as whys
 
 unfoldable pub why_text : Why → List ℕ
-why_text Long = codes "long"
-why_text Byte = codes "byte"
-why_text Line = codes "line"
-why_text Head = codes "head"
-why_text Order = codes "order"
-why_text Word = codes "word"
-why_text Count = codes "count"
-why_text Number = codes "number"
-why_text Name = codes "name"
-why_text List = codes "list"
-why_text End = codes "end"
-why_text Unknown = codes "unknown"
-why_text Kind = codes "kind"
-why_text Journal = codes "journal"
-why_text Trace = codes "trace"
-why_text Later = codes "later"
+why_text whys.Long = codes "long"
+why_text whys.Byte = codes "byte"
+why_text whys.Line = codes "line"
+why_text whys.Head = codes "head"
+why_text whys.Order = codes "order"
+why_text whys.Word = codes "word"
+why_text whys.Count = codes "count"
+why_text whys.Number = codes "number"
+why_text whys.Name = codes "name"
+why_text whys.List = codes "list"
+why_text whys.End = codes "end"
+why_text whys.Unknown = codes "unknown"
+why_text whys.Kind = codes "kind"
+why_text whys.Journal = codes "journal"
+why_text whys.Trace = codes "trace"
+why_text whys.Later = codes "later"
