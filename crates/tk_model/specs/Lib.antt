@@ -1,0 +1,10 @@
+pub mod Orders
+pub mod Checks
+pub mod Base
+pub mod TaskCalls
+pub mod Statements
+pub mod State
+pub mod Step
+pub mod Trace
+pub mod LineText
+pub mod Rows
