@@ -14,6 +14,7 @@ use Rattle.std.proofs.lemmas.Str.{IsUtf8-from_ascii}
 use Rattle.std.proofs.lemmas.Slice.Eq.{bytes_eq-Decides}
 use Rattle.std.proofs.lemmas.Bool.Decides.{Decides-ltb, Decides-int_eq}
 use lib.Signed.{mag}
+use Rattle.tk_text.proofs.Options.{both_true, value_chosen, from_test, none_of}
 use Rattle.tk_text.specs.Decimals.{fits_i32, number_at, natural_at}
 
 -- a number's text is UTF-8
@@ -43,21 +44,6 @@ other_number text word r v same ok parses other z fits is =
     let f : r ≡ Ok z = parse-signed_decimal w32 z text r fits (omega (arith, fits.sfits)) (same ∙ is) parses in
     let same_number : v ≡ z = cc in
     other (ap signed_decimal same_number ∙ sym is)
-
--- two facts from a conjunction of tests
-pub both_true : (a b : Bool) → (a && b) ≡ true → (a ≡ true) × (b ≡ true)
-both_true true b e = (refl, e)
-both_true false b e = (e, absurd (cc))
-
--- what a choice between a value and none says
-pub value_chosen : {X : Type 0} (b : Bool) (x y : X) → cond b (Some x) None ≡ Some y → (b ≡ true) × (x ≡ y)
-value_chosen true x y e = (refl, cc)
-value_chosen false x y e = absurd (cc)
-
--- a fact that a test decides and that can't fail
-pub from_test : {P : Type 0} (b : Bool) → Decides b P → ((P → ⊥) → ⊥) → P
-from_test true d certain = d.0 refl
-from_test false d certain = absurd (certain (λ p. let e : false ≡ true = d.1 p in cc))
 
 pub fits_i32_tells : (z : ℤ) → Decides (fits_i32 z) (FitsSigned w32 z)
 unfolding fits_i32
@@ -100,11 +86,6 @@ pub number_at_again : (z : ℤ) → FitsSigned w32 z → number_at (signed_decim
 unfolding number_at
 number_at_again z fits =
     rw (signed_value_again z fits, (bytes_eq-Decides (signed_decimal z) (signed_decimal z)).1 refl, (fits_i32_tells z).1 fits) refl
-
--- an option that can be no value is none
-pub none_of : {X : Type 0} (r : Option X) → ((x : X) → r ≡ Some x → ⊥) → None ≡ r
-none_of None never = refl
-none_of (Some x) never = absurd (never x refl)
 
 -- what two exact answers of one word have to be
 pub natural_at_from_clauses : (word : List ℕ) (r : Option ℕ) → IfSome r (λ n. (word ≡ decimal n) × (n < 2 ^ 64)) → IfNone r ((n : ℕ) → n < 2 ^ 64 → word ≢ decimal n) → r ≡ natural_at word

@@ -1,1 +1,5 @@
 pub mod Decimals
+pub mod Cuts
+pub mod Faults
+pub mod Options
+pub mod Tokens
