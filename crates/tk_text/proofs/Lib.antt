@@ -2,4 +2,5 @@ pub mod Decimals
 pub mod Cuts
 pub mod Faults
 pub mod Options
+pub mod Spans
 pub mod Tokens

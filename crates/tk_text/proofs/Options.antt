@@ -1,5 +1,6 @@
 -- Choices between values.
-use Rattle.std.proofs.Common.{◌≡◌, Bool, true, false, cond, ◌&&◌, Option, Some, None, refl}
+use Rattle.std.proofs.Common.{◌≡◌, Bool, true, false, cond, ◌&&◌, Option, Some, None, Result, Ok, Err, refl}
+use Rattle.std.specs.Result.{IfOk}
 use Rattle.std.specs.Bool.{Decides}
 
 -- two facts from a conjunction of tests
@@ -25,3 +26,8 @@ from_test false d certain = absurd (certain (λ p. let e : false ≡ true = d.1 
 pub none_of : {X : Type 0} (r : Option X) → ((x : X) → r ≡ Some x → ⊥) → None ≡ r
 none_of None never = refl
 none_of (Some x) never = absurd (never x refl)
+
+-- what follows from what is said of a good result
+pub ok_map : {T E : Type 0} (r : Result T E) (P Q : T → Type 0) → IfOk r P → ((x : T) → P x → Q x) → IfOk r Q
+ok_map (Ok x) P Q is go = go x is
+ok_map (Err e) P Q is go = tt

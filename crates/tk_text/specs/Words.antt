@@ -20,10 +20,14 @@ is_word part = nat_lt 0 (length part)
 abbrev pub words_of : List ℕ → List (List ℕ)
 words_of line = filter is_word (parts_of 32 line)
 
+-- a word with the number of its line
+abbrev pub numbered : ℕ → List ℕ → ℕ × List ℕ
+numbered number word = (number, word)
+
 -- the words of lines that are counted from a number on, each with the number of its line
 unfoldable pub words_from : ℕ → List (List ℕ) → List (ℕ × List ℕ)
 words_from number [] = []
-words_from number (line ∷ lines) = map (λ word. (number, word)) (words_of line) ++ words_from (number + 1) lines
+words_from number (line ∷ lines) = map (numbered number) (words_of line) ++ words_from (number + 1) lines
 
 -- the words of a text, each with the number of its line
 abbrev pub numbered_words : List ℕ → List (ℕ × List ℕ)

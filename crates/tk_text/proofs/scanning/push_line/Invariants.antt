@@ -3,7 +3,7 @@ use Rattle.std.proofs.Common.{◌≡◌, ◌+◌, ◌≤◌, ◌++◌, length}
 use Rattle.std.specs.Option.{option_copied}
 use Rattle.tk_text.specs.Words.{parts_of}
 use Rattle.tk_text.specs.Tokens.{line_tokens, parts_left, room_left}
-use Rattle.tk_text.proofs.scan.push_line.Given as goal
+use Rattle.tk_text.proofs.scanning.push_line.Given as goal
 
 abbrev pub invariant-parts : goal.invariant-parts
 invariant-parts l = record {

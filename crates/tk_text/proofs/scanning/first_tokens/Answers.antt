@@ -3,8 +3,8 @@ use Rattle.std.proofs.Common.{ap, ◌∙◌, rules, arith}
 use Rattle.std.specs.Option.{option_copied}
 use Rattle.tk_text.specs.Tokens.{parts_left}
 use Rattle.tk_text.proofs.Tokens.{line_pushed, lines_over, lines_enough}
-use Rattle.tk_text.proofs.scan.first_tokens.Goals as goal
-use Rattle.tk_text.proofs.scan.first_tokens.Goals.{in-Some+then-number-most, in_default}
+use Rattle.tk_text.proofs.scanning.first_tokens.Goals as goal
+use Rattle.tk_text.proofs.scanning.first_tokens.Goals.{in-Some+then-number-most, in_default}
 
 pub lines-preserved : goal.lines-preserved
 lines-preserved c = record {

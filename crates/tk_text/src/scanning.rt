@@ -2,6 +2,7 @@
 
 ghost use Rattle.std.specs.Prelude.{◌≡◌, ◌+◌, ◌-◌, ◌<◌, ◌≤◌, ◌^◌, [], ◌++◌, length, map, take, OnOk, IfOk};
 ghost use Rattle.tk_text.specs.Words.{parts_of, lines_of, words_from, numbered_words};
+ghost use Rattle.tk_text.specs.Scans.{IsScan};
 ghost use Rattle.tk_text.specs.Tokens.{part_token, line_tokens, text_tokens, read_token, SpansRise};
 
 use crate::cut::cut;
@@ -63,4 +64,36 @@ fn first_tokens(alloc: Global, text: &[u8], most: usize) -> Result<Tokens, OutOf
         left = rest;
     }
     Ok(tokens)
+}
+
+/// The words of a text, with the lines that they stand in. The text has fewer than 2 to the power of 32 bytes.
+pub fn tokens_of(alloc: Global, text: &[u8]) -> Result<Tokens, OutOfMemory>
+    requires { length text.now < 2 ^ 32 }
+    ensures words { IfOk result (λ tokens. map (read_token text.now) tokens ≡ numbered_words text.now) }
+    ensures rise { IfOk result (λ tokens. SpansRise 0 (length text.now) tokens) }
+{
+    first_tokens(alloc, text, text.len() + 1)
+}
+
+/// The words of the lines before a line, which is counted from 1. The text has fewer than 2 to the power of 32
+/// bytes.
+pub fn tokens_before(alloc: Global, text: &[u8], line: u32) -> Result<Tokens, OutOfMemory>
+    requires { length text.now < 2 ^ 32 }
+    ensures words { IfOk result (λ tokens. map (read_token text.now) tokens ≡ words_from 1 (take (line - 1) (lines_of text.now))) }
+    ensures rise { IfOk result (λ tokens. SpansRise 0 (length text.now) tokens) }
+{
+    first_tokens(alloc, text, line.saturating_sub(1) as usize)
+}
+
+/// The words of a text, or the first line that shows a fault by itself. The text has fewer than 2 to the power of
+/// 32 bytes.
+pub fn scan(alloc: Global, text: &[u8]) -> Result<Scanned, OutOfMemory>
+    requires { length text.now < 2 ^ 32 }
+    ensures { IfOk result (λ scanned. IsScan text.now scanned) }
+{
+    if let Some(fault) = fault_of(text) {
+        return Ok(Scanned::Fault(fault));
+    }
+    let tokens = tokens_of(alloc, text)?;
+    Ok(Scanned::Tokens(tokens))
 }

@@ -3,7 +3,7 @@ use Rattle.std.proofs.Common.{◌≡◌, ◌+◌, ◌-◌, ◌≤◌, ◌++◌, 
 use Rattle.std.specs.Option.{option_copied}
 use Rattle.tk_text.specs.Words.{lines_of}
 use Rattle.tk_text.specs.Tokens.{text_tokens, parts_left, room_left}
-use Rattle.tk_text.proofs.scan.first_tokens.Given as goal
+use Rattle.tk_text.proofs.scanning.first_tokens.Given as goal
 
 abbrev pub invariant-lines : goal.invariant-lines
 invariant-lines l = record {

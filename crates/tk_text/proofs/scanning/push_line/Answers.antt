@@ -3,7 +3,7 @@ use Rattle.std.proofs.Common.{ap, ◌∙◌, rules}
 use Rattle.std.specs.Option.{option_copied}
 use Rattle.tk_text.specs.Tokens.{parts_left}
 use Rattle.tk_text.proofs.Tokens.{part_pushed, parts_ended}
-use Rattle.tk_text.proofs.scan.push_line.Goals as goal
+use Rattle.tk_text.proofs.scanning.push_line.Goals as goal
 
 pub parts-preserved : goal.parts-preserved
 parts-preserved c = record {
