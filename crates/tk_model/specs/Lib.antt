@@ -8,3 +8,5 @@ pub mod Step
 pub mod Trace
 pub mod LineText
 pub mod Rows
+pub mod LineRanges
+pub mod Journal

@@ -15,7 +15,7 @@ fn first_mark(bytes: &[u8], mark: u8) -> Option<usize>
 }
 
 /// The bytes before the first mark, and those behind it where there is a mark.
-pub(crate) fn cut(bytes: &[u8], mark: u8) -> (&[u8], Option<&[u8]>)
+pub fn cut(bytes: &[u8], mark: u8) -> (&[u8], Option<&[u8]>)
     ensures parts { parts_of mark bytes.now ≡ result.0.now ∷ parts_left mark (option_copied result.1) }
     ensures room { length result.0.now + room_left (option_copied result.1) ≡ length bytes.now }
 {

@@ -8,6 +8,7 @@ mod list;
 mod scanning;
 mod token;
 
+pub use cut::cut as cut_at;
 pub use decimal::{natural, number};
 pub use fault::fault_of;
 pub use list::{list_bits, push_list};

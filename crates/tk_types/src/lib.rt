@@ -22,13 +22,13 @@ pub use calls::{
     TimeCall,
 };
 pub use error_code::Er;
-pub use line::{HandlerKind, Hook, LastLine, Line, LineEnding};
+pub use line::{Entry, HandlerKind, Hook, How, LastLine, Line, LineEnding};
 pub use memory::OutOfMemory;
 pub use modes::{
     ATTRIBUTE_WORDS, Attributes, FLAG_MODE_WORDS, FlagMode, OPEN_MODE_WORDS, OpenMode,
     SUSPEND_MODE_WORDS, SuspendMode,
 };
-pub use name::Name;
+pub use name::{Name, is_name};
 pub use run::{Act, End, Frame, Mode, SayText};
 pub use script::{
     Arg, Body, BodyKind, Boot, Condition, Device, Interrupt, Kind, Label, Operand, Operation,

@@ -8,7 +8,7 @@ use Rattle.tk_text.proofs.fault.fault_of.Given as goal
 abbrev pub invariant-lines : goal.invariant-lines
 invariant-lines l = record {
   same : faults_from (l.number + 1) (parts_left 10 (option_copied l.left)) ≡ faults_from 1 (lines_of l.text);
-  room : l.number + room_left (option_copied l.left) ≤ length l.text + 1
+  room : l.number + room_left (option_copied l.left) ≤ length l.text + 1;
 }
 
 abbrev pub decreases-lines : goal.decreases-lines
