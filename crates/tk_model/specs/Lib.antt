@@ -1,4 +1,5 @@
 pub mod Orders
+pub mod Choice
 pub mod Checks
 pub mod Base
 pub mod TaskCalls
@@ -7,4 +8,5 @@ pub mod State
 pub mod Step
 pub mod Trace
 pub mod LineText
+pub mod Machine
 pub mod Rows
