@@ -1,6 +1,6 @@
 -- How the words on streams compose, over plain variables: one call and another behind it, as a loop makes them.
-use Rattle.std.proofs.Common.{◌≡◌, ℕ, ◌+◌, ◌≤◌, List, [], ◌++◌, length, take, Option, None, Some, IfSome, inl, inr, refl, sym, ap, ◌∙◌, arith}
-use Rattle.std.proofs.lemmas.List.{append-nil, append_assoc, take_at, take_all}
+use Rattle.std.proofs.Common.{◌≡◌, ℕ, ◌+◌, ◌<◌, ◌≤◌, min, List, [], ◌++◌, length, take, Option, None, Some, IfSome, inl, inr, refl, sym, ap, ◌∙◌, arith}
+use Rattle.std.proofs.lemmas.List.{append-nil, append_assoc, length-take, length-take-le, take_at, take_all}
 use Rattle.tk_ports.specs.Streams.{Appends, AppendsFront, TakesFront, TakesWithin, IsUsedUp, Rose, Counts, CountsWithin}
 
 -- ---- what a sink took
@@ -79,6 +79,20 @@ pub takes_up_to : (old new : Option (List ℕ)) (bytes : List ℕ) (most : ℕ) 
     → IfSome old (λ input. bytes ≡ take most input)
 takes_up_to None new bytes most p e = tt
 takes_up_to (Some input) new bytes most p e = sym (ap (take most) p.1 ∙ take_at bytes p.0 most e)
+
+-- an input within its limit is what was read, where one byte more was asked for
+pub whole_within : (input bytes : List ℕ) (limit : ℕ) → bytes ≡ take (limit + 1) input → length input ≤ limit → bytes ≡ input
+whole_within input bytes limit e h = e ∙ take_all (limit + 1) input (omega arith)
+
+-- so is an input of which no more than the limit was read
+pub whole_read : (input bytes : List ℕ) (limit : ℕ) → bytes ≡ take (limit + 1) input → length bytes ≤ limit → bytes ≡ input
+whole_read input bytes limit e h =
+    let size : length bytes ≡ min (limit + 1) (length input) = ap length e ∙ length-take (limit + 1) input in
+    whole_within input bytes limit e (omega arith)
+
+-- of an input past its limit one byte more was read
+pub past_limit : (input bytes : List ℕ) (limit : ℕ) → bytes ≡ take (limit + 1) input → limit < length input → length bytes ≡ limit + 1
+past_limit input bytes limit e h = ap length e ∙ length-take-le (limit + 1) input (omega arith)
 
 -- a front of known length, in so many turns
 pub takes_within : (old new : Option (List ℕ)) (turns count : Option ℕ) (bytes : List ℕ) (most : ℕ) → TakesFront old new bytes → length bytes ≤ most
