@@ -1,4 +1,6 @@
 pub mod Orders
+pub mod Choice
+pub mod Precedence
 pub mod Checks
 pub mod Base
 pub mod TaskCalls
@@ -7,6 +9,7 @@ pub mod State
 pub mod Step
 pub mod Trace
 pub mod LineText
+pub mod Machine
 pub mod Rows
 pub mod LineRanges
 pub mod Journal

@@ -13,8 +13,6 @@ use Rattle.tk_types.specs.declared.line.Hook.{Hook}
 use Rattle.tk_types.specs.declared.line.Hook.TheVariants as hooks
 use Rattle.tk_types.specs.declared.line.LastLine.{LastLine}
 use Rattle.tk_types.specs.declared.line.LastLine.TheVariants as lasts
-use Rattle.tk_types.specs.declared.run.SayText.{SayText}
-use Rattle.tk_types.specs.declared.run.SayText.TheVariants as texts
 use Rattle.tk_types.specs.Names.{name_at_most}
 
 -- five places without a field
@@ -37,10 +35,6 @@ IsHook (hooks.Service who call) = who < 2 ^ 8
 IsHook (hooks.Dispatch task) = task < 2 ^ 8
 IsHook (hooks.Handler handler number) = number < 2 ^ 8
 
-abbrev pub IsSaid : SayText → Type 0
-IsSaid (texts.Name name) = name_at_most 16 name ≡ true
-IsSaid (texts.Number number) = FitsSigned w32 number
-
 abbrev pub IsEnd : LastLine → Type 0
 IsEnd lasts.Idle = Unit {0}
 IsEnd lasts.Halt = Unit {0}
@@ -57,5 +51,6 @@ IsLine (lines.Tick n time) = (n < 2 ^ 32) × (time < 2 ^ 64)
 IsLine (lines.Started n handler number) = (n < 2 ^ 32) × (number < 2 ^ 8)
 IsLine (lines.Ending n device request ending) = (n < 2 ^ 32) × (device < 2 ^ 8) × (request < 2 ^ 8) × IsEnding ending
 IsLine (lines.Hook n hook) = (n < 2 ^ 32) × IsHook hook
-IsLine (lines.Said n who text) = (n < 2 ^ 32) × (who < 2 ^ 8) × IsSaid text
+IsLine (lines.SaidName n who name) = (n < 2 ^ 32) × (who < 2 ^ 8) × (name_at_most 16 name ≡ true)
+IsLine (lines.SaidNumber n who number) = (n < 2 ^ 32) × (who < 2 ^ 8) × FitsSigned w32 number
 IsLine (lines.End n end) = (n < 2 ^ 32) × IsEnd end

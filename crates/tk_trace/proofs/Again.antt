@@ -24,16 +24,14 @@ use Rattle.tk_types.specs.declared.line.LastLine.TheVariants as lasts
 use Rattle.tk_types.specs.declared.line.Entry.{Entry}
 use Rattle.tk_types.specs.declared.line.How.{How}
 use Rattle.tk_types.specs.declared.line.How.TheVariants as hows
-use Rattle.tk_types.specs.declared.run.SayText.{SayText}
-use Rattle.tk_types.specs.declared.run.SayText.TheVariants as said
 use Rattle.tk_types.specs.Codes.{coded, error_text}
 use Rattle.tk_types.specs.Names.{is_name_byte, name_at_most}
 use Rattle.tk_types.proofs.CallNameLaws.{named_text_of}
 use Rattle.tk_types.proofs.ErrorLaws.{error_named_text, coded_code}
 use Rattle.tk_text.specs.Decimals.{number_at}
 use Rattle.tk_text.proofs.Decimals.{natural_at_again, number_at_again}
-use Rattle.tk_model.specs.LineText.{value_text, named_value, answer_words, handler_text, said_text, words_of}
-use Rattle.tk_model.specs.LineRanges.{no_fields, IsAnswer, IsSaid, IsLine}
+use Rattle.tk_model.specs.LineText.{value_text, named_value, answer_words, handler_text, words_of}
+use Rattle.tk_model.specs.LineRanges.{no_fields, IsAnswer, IsLine}
 use Rattle.tk_model.specs.Journal.{how_words, words_of_entry, IsHow, IsEntry}
 use Rattle.tk_trace.specs.Reading.{u8_at, u32_at, value_at, numbers_at, fields_at, answer_at, handler_at, done_at, cut_at, ending_at, service_at, switch_at, start_at, hook_at, said_at, unfit_at, plain_end_at, end_at, dispatch_line_at, returned_line_at, blocked_line_at, released_line_at, tick_line_at, started_line_at, ending_line_at, hook_line_at, said_line_at, end_line_at, line_of_tag, line_at}
 use Rattle.tk_trace.specs.Entries.{how_at, entry_at}
@@ -121,13 +119,8 @@ no_name (byte ∷ rest) starts =
 number_is_no_name : (z : ℤ) → FitsSigned w32 z → name_at_most 16 (signed_decimal z) ≡ false
 number_is_no_name z fits = no_name (signed_decimal z) (starts_low z fits)
 
-said_again : (text : SayText) → IsSaid text → said_at (said_text text) ≡ Some text
-unfolding said_at
-said_again (said.Name name) is = rw is refl
-said_again (said.Number number) is = rw (number_is_no_name number is, number_at_again number is) refl
-
 pub line_again : (line : Line) → IsLine line → line_at (words_of line) ≡ Some line
-unfolding line_at line_of_tag words_of dispatch_line_at returned_line_at blocked_line_at released_line_at tick_line_at started_line_at ending_line_at ending_at done_at cut_at hook_line_at hook_at service_at switch_at start_at said_line_at end_line_at end_at unfit_at plain_end_at
+unfolding line_at line_of_tag words_of dispatch_line_at returned_line_at blocked_line_at released_line_at tick_line_at started_line_at ending_line_at ending_at done_at cut_at hook_line_at hook_at service_at switch_at start_at said_line_at said_at end_line_at end_at unfit_at plain_end_at
 line_again (lines.Dispatch n task) is = rw (u32_again n is.0, u8_again task is.1) refl
 line_again (lines.Returned n who call result) is = rw (u32_again n is.0, u8_again who is.1, named_text_of call, answer_again result is.2) refl
 line_again (lines.Blocked n task call) is = rw (u32_again n is.0, u8_again task is.1, named_text_of call) refl
@@ -141,7 +134,8 @@ line_again (lines.Ending n device request (endings.Cut size)) is =
 line_again (lines.Hook n (hooks.Service who call)) is = rw (u32_again n is.0, u8_again who is.1, named_text_of call) refl
 line_again (lines.Hook n (hooks.Dispatch task)) is = rw (u32_again n is.0, u8_again task is.1) refl
 line_again (lines.Hook n (hooks.Handler handler number)) is = rw (u32_again n is.0, handler_again handler, u8_again number is.1) refl
-line_again (lines.Said n who text) is = rw (u32_again n is.0, u8_again who is.1, said_again text is.2) refl
+line_again (lines.SaidName n who name) is = rw (u32_again n is.0, u8_again who is.1, is.2) refl
+line_again (lines.SaidNumber n who number) is = rw (u32_again n is.0, u8_again who is.1, number_is_no_name number is.2, number_at_again number is.2) refl
 line_again (lines.End n lasts.Idle) is = rw (u32_again n is.0) refl
 line_again (lines.End n lasts.Halt) is = rw (u32_again n is.0) refl
 line_again (lines.End n lasts.Budget) is = rw (u32_again n is.0) refl

@@ -26,14 +26,12 @@ use Rattle.tk_types.specs.declared.line.LastLine.TheVariants as lasts
 use Rattle.tk_types.specs.declared.line.Entry.{Entry}
 use Rattle.tk_types.specs.declared.line.How.{How}
 use Rattle.tk_types.specs.declared.line.How.TheVariants as hows
-use Rattle.tk_types.specs.declared.run.SayText.{SayText}
-use Rattle.tk_types.specs.declared.run.SayText.TheVariants as said
 use Rattle.tk_types.specs.Names.{is_name_byte, name_at_most}
 use Rattle.tk_types.proofs.CallNameLaws.{text_of_plain}
 use Rattle.tk_types.proofs.ErrorLaws.{error_text_plain}
 use Rattle.tk_text.proofs.Options.{both_true}
-use Rattle.tk_model.specs.LineText.{value_text, named_value, error_of, answer_words, handler_text, ending_words, hook_words, said_text, end_words, words_of}
-use Rattle.tk_model.specs.LineRanges.{IsAnswer, IsEnding, IsHook, IsSaid, IsEnd, IsLine}
+use Rattle.tk_model.specs.LineText.{value_text, named_value, error_of, answer_words, handler_text, ending_words, hook_words, end_words, words_of}
+use Rattle.tk_model.specs.LineRanges.{IsAnswer, IsEnding, IsHook, IsEnd, IsLine}
 use Rattle.tk_model.specs.Journal.{how_words, words_of_entry, IsHow, IsEntry}
 
 -- a word whose bytes lie above the space, and words of that kind
@@ -118,10 +116,6 @@ hook_plain (hooks.Service who call) is = rw (small_plain who is, text_of_plain c
 hook_plain (hooks.Dispatch task) is = rw (small_plain task is) refl
 hook_plain (hooks.Handler handler number) is = rw (handler_plain handler, small_plain number is) refl
 
-said_plain : (text : SayText) → IsSaid text → is_plain (said_text text) ≡ true
-said_plain (said.Name name) is = name_plain name is
-said_plain (said.Number number) is = signed_plain number is
-
 end_plain : (end : LastLine) → IsEnd end → are_plain (end_words end) ≡ true
 end_plain lasts.Idle is = refl
 end_plain lasts.Halt is = refl
@@ -139,7 +133,8 @@ words_plain (lines.Tick n time) is = rw (word_plain n is.0, decimal_plain time i
 words_plain (lines.Started n handler number) is = rw (word_plain n is.0, handler_plain handler, small_plain number is.1) refl
 words_plain (lines.Ending n device request ending) is = rw (word_plain n is.0, small_plain device is.1, small_plain request is.2) (ending_plain ending is.3)
 words_plain (lines.Hook n hook) is = rw (word_plain n is.0) (hook_plain hook is.1)
-words_plain (lines.Said n who text) is = rw (word_plain n is.0, small_plain who is.1, said_plain text is.2) refl
+words_plain (lines.SaidName n who name) is = rw (word_plain n is.0, small_plain who is.1, name_plain name is.2) refl
+words_plain (lines.SaidNumber n who number) is = rw (word_plain n is.0, small_plain who is.1, signed_plain number is.2) refl
 words_plain (lines.End n end) is = rw (word_plain n is.0) (end_plain end is.1)
 
 how_plain : (how : How) → IsHow how → are_plain (how_words how) ≡ true

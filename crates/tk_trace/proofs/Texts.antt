@@ -31,7 +31,8 @@ words_again (lines.Tick n time) are = split_joined _ _ are
 words_again (lines.Started n handler number) are = split_joined _ _ are
 words_again (lines.Ending n device request ending) are = split_joined _ _ are
 words_again (lines.Hook n hook) are = split_joined _ _ are
-words_again (lines.Said n who text) are = split_joined _ _ are
+words_again (lines.SaidName n who name) are = split_joined _ _ are
+words_again (lines.SaidNumber n who number) are = split_joined _ _ are
 words_again (lines.End n end) are = split_joined _ _ are
 
 -- the text of a line is read as that line

@@ -14,8 +14,6 @@ use Rattle.tk_types.specs.declared.line.Hook.{Hook}
 use Rattle.tk_types.specs.declared.line.Hook.TheVariants as hooks
 use Rattle.tk_types.specs.declared.line.LastLine.{LastLine}
 use Rattle.tk_types.specs.declared.line.LastLine.TheVariants as lasts
-use Rattle.tk_types.specs.declared.run.SayText.{SayText}
-use Rattle.tk_types.specs.declared.run.SayText.TheVariants as said
 use Rattle.tk_types.specs.CallNames.{named}
 use Rattle.tk_types.specs.Codes.{code_of, error_named}
 use Rattle.tk_types.specs.Names.{name_at_most}
@@ -127,13 +125,6 @@ hook_at word words =
     else if bytes_eq word (codes "int") then start_at words
     else None
 
-abbrev pub name_or_number : Option (List ℕ) → Option ℤ → Option SayText
-name_or_number (Some name) number = Some (said.Name name)
-name_or_number None number = option_map said.Number number
-
-unfoldable pub said_at : List ℕ → Option SayText
-said_at word = name_or_number (if name_at_most 16 word then Some word else None) (number_at word)
-
 unfoldable pub unfit_at : List (List ℕ) → Option LastLine
 unfit_at (entry ∷ []) = do
   entry ← u32_at entry
@@ -215,11 +206,18 @@ hook_line_at step (word ∷ words) = do
   Some (lines.Hook step hook)
 hook_line_at step _ = None
 
+abbrev pub said_line : ℕ → ℕ → Option (List ℕ) → Option ℤ → Option Line
+said_line step who (Some name) number = Some (lines.SaidName step who name)
+said_line step who None number = option_map (λ number. lines.SaidNumber step who number) number
+
+-- what was said is a name or a number
+unfoldable pub said_at : ℕ → ℕ → List ℕ → Option Line
+said_at step who word = said_line step who (if name_at_most 16 word then Some word else None) (number_at word)
+
 unfoldable pub said_line_at : ℕ → List (List ℕ) → Option Line
 said_line_at step (who ∷ word ∷ []) = do
   who ← u8_at who
-  text ← said_at word
-  Some (lines.Said step who text)
+  said_at step who word
 said_line_at step _ = None
 
 unfoldable pub end_line_at : ℕ → List (List ℕ) → Option Line

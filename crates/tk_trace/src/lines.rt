@@ -3,11 +3,11 @@
 ghost use Rattle.std.specs.Prelude.{◌≡◌, IfSome};
 ghost use Rattle.tk_text.specs.Lists.{texts};
 ghost use Rattle.tk_model.specs.LineRanges.{IsEnding, IsHook, IsEnd, IsLine};
-ghost use Rattle.tk_trace.specs.Reading.{done_at, cut_at, ending_at, service_at, switch_at, start_at, hook_at, unfit_at, plain_end_at, end_at, dispatch_line_at, returned_line_at, blocked_line_at, released_line_at, tick_line_at, started_line_at, ending_line_at, hook_line_at, said_line_at, end_line_at, line_of_tag, line_at};
+ghost use Rattle.tk_trace.specs.Reading.{done_at, cut_at, ending_at, service_at, switch_at, start_at, hook_at, unfit_at, plain_end_at, end_at, dispatch_line_at, returned_line_at, blocked_line_at, released_line_at, tick_line_at, started_line_at, ending_line_at, hook_line_at, said_at, said_line_at, end_line_at, line_of_tag, line_at};
 
-use crate::words::{answer_at, handler_at, said_at, u8_at, u32_at, value_at};
-use tk_text::natural;
-use tk_types::{CallName, Hook, LastLine, Line, LineEnding};
+use crate::words::{answer_at, handler_at, u8_at, u32_at, value_at};
+use tk_text::{natural, number};
+use tk_types::{CallName, Hook, LastLine, Line, LineEnding, Name};
 
 /// The ending of a request that wasn't cut: its error and its size.
 #[tactic(auto, unfolding(crate::specs::Reading::done_at))]
@@ -287,6 +287,21 @@ fn hook_line_at(step: u32, words: &[&[u8]]) -> Option<Line>
     Some(Line::Hook { step, hook })
 }
 
+/// An `S` line of what was said: a name or a number.
+#[tactic(auto, unfolding(crate::specs::Reading::said_at))]
+fn said_at(step: u32, who: u8, word: &[u8]) -> Option<Line>
+    ensures value { result ≡ said_at step who word.now }
+    ensures line { IfSome result IsLine }
+{
+    match Name::new(word) {
+        Some(name) => Some(Line::SaidName { step, who, name }),
+        None => match number(word) {
+            Some(number) => Some(Line::SaidNumber { step, who, number }),
+            None => None,
+        },
+    }
+}
+
 /// An `S` line.
 #[tactic(auto, unfolding(crate::specs::Reading::said_line_at))]
 fn said_line_at(step: u32, words: &[&[u8]]) -> Option<Line>
@@ -297,8 +312,7 @@ fn said_line_at(step: u32, words: &[&[u8]]) -> Option<Line>
         return None;
     };
     let who = u8_at(who)?;
-    let text = said_at(word)?;
-    Some(Line::Said { step, who, text })
+    said_at(step, who, word)
 }
 
 /// An `END` line.

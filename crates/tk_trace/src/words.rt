@@ -5,11 +5,11 @@ ghost use Rattle.std.specs.Int.{w32};
 ghost use Rattle.std.specs.Int.RustNames.{FitsSigned};
 ghost use Rattle.std.specs.List.{All};
 ghost use Rattle.tk_text.specs.Lists.{texts};
-ghost use Rattle.tk_model.specs.LineRanges.{no_fields, IsAnswer, IsSaid};
-ghost use Rattle.tk_trace.specs.Reading.{u8_at, u32_at, value_at, fields_at, answer_at, handler_at, said_at};
+ghost use Rattle.tk_model.specs.LineRanges.{no_fields, IsAnswer};
+ghost use Rattle.tk_trace.specs.Reading.{u8_at, u32_at, value_at, fields_at, answer_at, handler_at};
 
 use tk_text::{natural, number};
-use tk_types::{Answer, Er, HandlerKind, Name, SayText};
+use tk_types::{Answer, Er, HandlerKind};
 
 /// The number of 8 bits that a word spells.
 #[tactic(auto, unfolding(crate::specs::Reading::u8_at))]
@@ -99,20 +99,5 @@ pub(crate) fn handler_at(word: &[u8]) -> Option<HandlerKind>
         Some(HandlerKind::Alarm)
     } else {
         None
-    }
-}
-
-/// What was said, as a word spells it: a name or a number.
-#[tactic(auto, unfolding(crate::specs::Reading::said_at))]
-pub(crate) fn said_at(word: &[u8]) -> Option<SayText>
-    ensures value { result ≡ said_at word.now }
-    ensures said { IfSome result IsSaid }
-{
-    match Name::new(word) {
-        Some(name) => Some(SayText::Name(name)),
-        None => match number(word) {
-            Some(read) => Some(SayText::Number(read)),
-            None => None,
-        },
     }
 }
