@@ -1,12 +1,12 @@
 -- The laws of lists: what is read is what is written, what is written is read, and both stay below the table's size.
-use Rattle.std.proofs.Common.{◌≡◌, ℕ, zero, suc, ◌+◌, ◌*◌, ◌/◌, ◌%◌, ◌<◌, ◌≤◌, ◌^◌, Bool, true, false, not, cond, eqb, ◌&&◌, ◌||◌, List, [], ◌∷◌, ◌++◌, length, Option, Some, None, refl, sym, ap, ◌∙◌, subst, ◌≢◌, inl, inr, ⊎_elim, ◌⊎◌, arith}
+use Rattle.std.proofs.Common.{◌≡◌, ℕ, suc, ◌+◌, ◌*◌, ◌/◌, ◌%◌, ◌<◌, ◌^◌, Bool, true, false, not, cond, eqb, ◌&&◌, ◌||◌, List, [], ◌∷◌, ◌++◌, length, Option, Some, None, refl, sym, ap, ◌∙◌, subst, ◌≢◌, inl, inr, ⊎_elim, ◌⊎◌, arith}
 use Rattle.std.specs.List.{slice_split, onto_first, join_with_byte, list_all, list_any}
-use Rattle.std.specs.Option.{option_map}
+use Rattle.std.specs.Option.{option_map, IfSome, IfNone}
 use Rattle.std.specs.Str.{bytes_eq}
 use Rattle.std.proofs.lemmas.Slice.Eq.{bytes_eq-Decides}
 use Rattle.std.proofs.lemmas.List.Splits.{join_with_byte-slice_split}
 use Rattle.std.proofs.lemmas.Nat.{pow_pos}
-use Rattle.std.proofs.lemmas.Bool.Decides.{nat_tests, Decides-eqb, not_from_Decides}
+use Rattle.std.proofs.lemmas.Bool.Decides.{Decides-eqb}
 use Rattle.std.proofs.Math.Nat.{pow-suc, pow-zero}
 use Rattle.tk_text.proofs.Options.{both_true}
 use Rattle.tk_text.specs.Words.{parts_of}
@@ -65,9 +65,9 @@ bits_takes (word ∷ table) [] bits e =
 bits_takes (word ∷ table) (part ∷ parts) bits e =
     ⊎_elim
     (λ t. let m = mapped (λ n. 2 * n + 1) (bits_of table parts) bits t.1 in
-        chosen_odd word table m.0 bits m.2 ∙ (ap (λ ws. word ∷ ws) (bits_takes table parts m.0 m.1) ∙ ap (λ w. w ∷ parts) (sym ((bytes_eq-Decides part word).0 t.0))))
+    chosen_odd word table m.0 bits m.2 ∙ (ap (λ ws. word ∷ ws) (bits_takes table parts m.0 m.1) ∙ ap (λ w. w ∷ parts) (sym ((bytes_eq-Decides part word).0 t.0))))
     (λ t. let m = mapped (λ n. 2 * n) (bits_of table (part ∷ parts)) bits t.1 in
-        chosen_even word table m.0 bits m.2 ∙ bits_takes table (part ∷ parts) m.0 m.1)
+    chosen_even word table m.0 bits m.2 ∙ bits_takes table (part ∷ parts) m.0 m.1)
     (chose (bytes_eq part word) (with_bit (bits_of table parts)) (without_bit (bits_of table (part ∷ parts))) (Some bits) e)
 
 -- they are below the power of the table's size
@@ -79,9 +79,9 @@ bits_below (word ∷ table) [] bits e = let none : 0 ≡ bits = cc in omega (ari
 bits_below (word ∷ table) (part ∷ parts) bits e =
     ⊎_elim
     (λ t. let m = mapped (λ n. 2 * n + 1) (bits_of table parts) bits t.1 in
-        let below = bits_below table parts m.0 m.1 in let twice : 2 ^ suc (length table) ≡ 2 ^ length table * 2 = pow-suc 2 (length table) in let same = m.2 in omega arith)
+    let below = bits_below table parts m.0 m.1 in let twice : 2 ^ suc (length table) ≡ 2 ^ length table * 2 = pow-suc 2 (length table) in let same = m.2 in omega arith)
     (λ t. let m = mapped (λ n. 2 * n) (bits_of table (part ∷ parts)) bits t.1 in
-        let below = bits_below table (part ∷ parts) m.0 m.1 in let twice : 2 ^ suc (length table) ≡ 2 ^ length table * 2 = pow-suc 2 (length table) in let same = m.2 in omega arith)
+    let below = bits_below table (part ∷ parts) m.0 m.1 in let twice : 2 ^ suc (length table) ≡ 2 ^ length table * 2 = pow-suc 2 (length table) in let same = m.2 in omega arith)
     (chose (bytes_eq part word) (with_bit (bits_of table parts)) (without_bit (bits_of table (part ∷ parts))) (Some bits) e)
 
 -- no part is no bit
@@ -134,10 +134,10 @@ bits_again (word ∷ table) bits is below =
     let read = bits_again table (bits / 2) j.1 (omega arith) in
     ⊎_elim
     (λ odd. let whole : 2 * (bits / 2) + 1 ≡ bits = omega arith in
-        rw (chosen_odd word table (bits / 2) bits whole, (bytes_eq-Decides word word).1 refl, read) (ap (λ n. Some n) whole))
+    rw (chosen_odd word table (bits / 2) bits whole, (bytes_eq-Decides word word).1 refl, read) (ap (λ n. Some n) whole))
     (λ even. let whole : 2 * (bits / 2) ≡ bits = omega arith in
-        rw (chosen_even word table (bits / 2) bits whole)
-        (passed_over word table (chosen table (bits / 2)) (bits / 2) bits refl (is_false (list_any (bytes_eq word) table) j.0) read whole))
+    rw (chosen_even word table (bits / 2) bits whole)
+    (passed_over word table (chosen table (bits / 2)) (bits / 2) bits refl (is_false (list_any (bytes_eq word) table) j.0) read whole))
     (odd_or_even bits)
 
 -- a byte of a table's word is no bar, and no dash
@@ -198,10 +198,10 @@ list_takes table word bits e =
     ⊎_elim
     (λ t. let none : 0 ≡ bits = cc in rw (← none) (sym ((bytes_eq-Decides word (45 ∷ [])).0 t.0)))
     (λ t. let taken = bits_takes table (parts_of 124 word) bits t.1 in
-        ⊎_elim
-        (λ zero_bits. absurd (some_part word (sym taken ∙ (ap (chosen table) ((Decides-eqb bits 0).0 zero_bits) ∙ chosen_zero table))))
-        (λ more. rw more (ap (join_with_byte 124) taken ∙ join_with_byte-slice_split 124 word))
-        (true_or_false (eqb bits 0)))
+    ⊎_elim
+    (λ zero_bits. absurd (some_part word (sym taken ∙ (ap (chosen table) ((Decides-eqb bits 0).0 zero_bits) ∙ chosen_zero table))))
+    (λ more. rw more (ap (join_with_byte 124) taken ∙ join_with_byte-slice_split 124 word))
+    (true_or_false (eqb bits 0)))
     (chose (bytes_eq word (45 ∷ [])) (Some 0) (bits_of table (parts_of 124 word)) (Some bits) e)
 
 -- words of a table with bars between are no dash
@@ -210,7 +210,7 @@ unfolding parts_of
 no_dash word words clean =
     false_of (bytes_eq (join_with_byte 124 (word ∷ words)) (45 ∷ []))
     (λ t. let same : (45 ∷ []) ∷ [] ≡ word ∷ words = sym (ap (parts_of 124) ((bytes_eq-Decides (join_with_byte 124 (word ∷ words)) (45 ∷ [])).0 t)) ∙ parts_again word words clean in
-        let dash : false ≡ true = subst (λ (ws : List (List ℕ)). list_all (list_all is_list_byte) ws ≡ true) (sym same) clean in cc)
+    let dash : false ≡ true = subst (λ (ws : List (List ℕ)). list_all (list_all is_list_byte) ws ≡ true) (sym same) clean in cc)
 
 -- words of a table with bars between are read as those words
 spelled_again : (table words : List (List ℕ)) (bits : ℕ) → words ≢ [] → list_all (list_all is_list_byte) words ≡ true → bits_of table words ≡ Some bits → cond (bytes_eq (join_with_byte 124 words) (45 ∷ [])) (Some 0) (bits_of table (parts_of 124 (join_with_byte 124 words))) ≡ Some bits
@@ -225,11 +225,11 @@ list_again table bits is below =
     ⊎_elim
     (λ zero_bits. rw zero_bits (ap (λ n. Some n) (sym ((Decides-eqb bits 0).0 zero_bits))))
     (λ more. rw more
-        (spelled_again table (chosen table bits) bits
-            (λ none. let nothing : Some 0 ≡ Some bits = sym (bits_of_none table) ∙ (ap (bits_of table) (sym none) ∙ read) in
-                let same : 0 ≡ bits = cc in
-                let yes : eqb bits 0 ≡ true = (Decides-eqb bits 0).1 (sym same) in cc)
-            (chosen_clean table bits is) read))
+    (spelled_again table (chosen table bits) bits
+    (λ none. let nothing : Some 0 ≡ Some bits = sym (bits_of_none table) ∙ (ap (bits_of table) (sym none) ∙ read) in
+    let same : 0 ≡ bits = cc in
+    let yes : eqb bits 0 ≡ true = (Decides-eqb bits 0).1 (sym same) in cc)
+    (chosen_clean table bits is) read))
     (true_or_false (eqb bits 0))
 
 -- what is read is below the power of the table's size
@@ -240,3 +240,15 @@ list_below table word bits e =
     (λ t. let none : 0 ≡ bits = cc in omega (arith, pow_pos (length table)))
     (λ t. bits_below table (parts_of 124 word) bits t.1)
     (chose (bytes_eq word (45 ∷ [])) (Some 0) (bits_of table (parts_of 124 word)) (Some bits) e)
+
+-- what an exact answer says of the list that was read, or that there is none
+pub some_list : (table : List (List ℕ)) (word : List ℕ) (r : Option ℕ) → r ≡ list_at table word → IfSome r (λ bits. list_text_of table bits ≡ word)
+some_list table word None exact = tt
+some_list table word (Some bits) exact = list_takes table word bits (sym exact)
+
+pub no_list : (table : List (List ℕ)) (size : ℕ) (word : List ℕ) (r : Option ℕ) → length table ≡ size → r ≡ list_at table word → is_table table ≡ true → IfNone r ((bits : ℕ) → bits < 2 ^ size → list_text_of table bits ≢ word)
+no_list table size word None same exact is =
+    λ bits below e.
+    let small : bits < 2 ^ length table = subst (λ (n : ℕ). bits < 2 ^ n) (sym same) below in
+    let read : Some bits ≡ None = sym (list_again table bits is small) ∙ (ap (list_at table) e ∙ sym exact) in cc
+no_list table size word (Some bits) same exact is = tt

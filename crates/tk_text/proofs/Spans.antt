@@ -1,12 +1,12 @@
 -- The tokens of a text have its words, and their spans rise.
-use Rattle.std.proofs.Common.{◌≡◌, ℕ, zero, suc, ◌+◌, ◌-◌, ◌<◌, ◌≤◌, Bool, true, false, cond, eqb, ltb, List, [], ◌∷◌, ◌++◌, length, take, drop, map, subst, sym, ap, ◌∙◌, append_assoc, append-nil, arith, refl, length-append}
+use Rattle.std.proofs.Common.{◌≡◌, ℕ, zero, suc, ◌+◌, ◌-◌, ◌≤◌, true, false, cond, eqb, ltb, List, [], ◌∷◌, ◌++◌, length, take, map, sym, ap, ◌∙◌, append_assoc, append-nil, arith, refl, length-append}
 use Rattle.std.specs.Prelude.{slice_range}
 use Rattle.std.specs.List.{filter, join_with_byte}
 use Rattle.std.proofs.lemmas.List.{take_at, take_all, drop_at, map-append}
 use Rattle.std.proofs.lemmas.List.Splits.{join_with_byte-slice_split, length-slice_split}
 use Rattle.std.proofs.lemmas.List.Sums.{count_by-le-length}
 use Rattle.std.proofs.lemmas.Bool.Decides.{nat_tests}
-use Rattle.tk_text.specs.Words.{parts_of, lines_of, is_word, numbered, words_of, words_from}
+use Rattle.tk_text.specs.Words.{parts_of, lines_of, is_word, numbered, words_from}
 use Rattle.tk_text.specs.Tokens.{part_token, line_tokens, text_tokens, read_token, SpansRise}
 use Rattle.tk_text.specs.declared.token.Token.{Token}
 
@@ -102,7 +102,7 @@ parts_rise low end number at (part ∷ next ∷ more) later from to go =
     let size = with_mark 32 part (join_with_byte 32 (next ∷ more)) in
     rw (append_assoc (part_token number at (length part)) (line_tokens number (at + (length part + 1)) (next ∷ more)) later)
     (part_rise low end number at part (line_tokens number (at + (length part + 1)) (next ∷ more) ++ later) from (omega arith)
-        (λ mid m. parts_rise mid end number (at + (length part + 1)) (next ∷ more) later (omega arith) (omega arith) (λ last l. go last (omega arith))))
+    (λ mid m. parts_rise mid end number (at + (length part + 1)) (next ∷ more) later (omega arith) (omega arith) (λ last l. go last (omega arith))))
 
 none_rise : (low end number at count : ℕ) → SpansRise low end (text_tokens number at (take count []))
 unfolding text_tokens SpansRise
@@ -121,12 +121,12 @@ text_rise low end number at (suc count) [] from to = none_rise low end number at
 text_rise low end number at (suc count) (line ∷ []) from to =
     let size = line_length line in
     parts_rise low end number at (parts_of 32 line) (text_tokens (number + 1) (at + (length line + 1)) (take count [])) from (omega arith)
-        (λ mid m. none_rise mid end (number + 1) (at + (length line + 1)) count)
+    (λ mid m. none_rise mid end (number + 1) (at + (length line + 1)) count)
 text_rise low end number at (suc count) (line ∷ next ∷ more) from to =
     let size = line_length line in
     let whole = with_mark 10 line (join_with_byte 10 (next ∷ more)) in
     parts_rise low end number at (parts_of 32 line) (text_tokens (number + 1) (at + (length line + 1)) (take count (next ∷ more))) from (omega arith)
-        (λ mid m. text_rise mid end (number + 1) (at + (length line + 1)) count (next ∷ more) (omega arith) (omega arith))
+    (λ mid m. text_rise mid end (number + 1) (at + (length line + 1)) count (next ∷ more) (omega arith) (omega arith))
 
 -- the tokens of the first lines of a text
 pub first_words : (text : List ℕ) (most : ℕ) → map (read_token text) (text_tokens 1 0 (take most (lines_of text))) ≡ words_from 1 (take most (lines_of text))

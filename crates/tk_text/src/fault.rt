@@ -3,6 +3,7 @@
 ghost use Rattle.std.specs.Prelude.{◌≡◌, ◌<◌, ◌^◌, false, length, IfSome};
 ghost use Rattle.std.specs.Option.{option_map};
 ghost use Rattle.std.specs.List.{list_all};
+ghost use Rattle.tk_text.specs.Scans.{IsFirstFault};
 ghost use Rattle.tk_text.specs.Words.{is_text_byte, line_fault, fault_at};
 
 use crate::cut::cut;
@@ -43,9 +44,8 @@ fn line_fault(line: &[u8]) -> Option<Why>
     }
 }
 
-/// The first line that shows a fault by itself: a byte that isn't printable ASCII, or more than 200 bytes before
-/// its line feed. It takes no memory. The text has fewer than 2 to the power of 32 bytes.
-pub fn fault_of(text: &[u8]) -> Option<TextFault>
+/// The first of the lines that shows a fault by itself.
+fn first_fault(text: &[u8]) -> Option<TextFault>
     requires { length text.now < 2 ^ 32 }
     ensures { option_map (λ fault. (fault.line, fault.why)) result ≡ fault_at text.now }
 {
@@ -63,4 +63,14 @@ pub fn fault_of(text: &[u8]) -> Option<TextFault>
         left = rest;
     }
     None
+}
+
+/// The first line that shows a fault by itself: a byte that isn't printable ASCII, or more than 200 bytes before
+/// its line feed. It takes no memory. The text has fewer than 2 to the power of 32 bytes.
+pub fn fault_of(text: &[u8]) -> Option<TextFault>
+    requires { length text.now < 2 ^ 32 }
+    ensures value { option_map (λ fault. (fault.line, fault.why)) result ≡ fault_at text.now }
+    ensures first { IfSome result (IsFirstFault text.now) }
+{
+    first_fault(text)
 }

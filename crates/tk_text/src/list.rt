@@ -1,8 +1,8 @@
 //! Lists: `-`, or words of a table in the table's order, none twice, with `|` between.
 
-ghost use Rattle.std.specs.Prelude.{◌≡◌, ◌<◌, ◌≤◌, ◌^◌, ◌++◌, length, IfSome, OnOk};
+ghost use Rattle.std.specs.Prelude.{◌≡◌, ◌≢◌, ℕ, ◌<◌, ◌≤◌, ◌^◌, ◌++◌, true, length, IfSome, IfNone, OnOk};
 ghost use Rattle.std.specs.Option.{option_copied};
-ghost use Rattle.tk_text.specs.Lists.{texts, chosen, bits_of, list_at, list_text_of, barred, between_bars};
+ghost use Rattle.tk_text.specs.Lists.{texts, chosen, bits_of, list_at, list_text_of, barred, between_bars, is_table};
 ghost use Rattle.tk_text.specs.Tokens.{parts_left};
 
 use crate::cut::cut;
@@ -36,10 +36,9 @@ fn bits_of(table: &[&'static str], left: Option<&[u8]>) -> Option<u32>
     }
 }
 
-/// The bits of a word that is a list of a table of at most 31 words: the lowest bit stands for the first word.
-/// `None` where the word is no list.
+/// The bits of a word that is `-` or has the table's words with bars between.
 #[tactic(auto, unfolding(crate::specs::Lists::list_at))]
-pub fn list_bits(table: &[&'static str], word: &[u8]) -> Option<u32>
+fn bits_of_word(table: &[&'static str], word: &[u8]) -> Option<u32>
     requires { length table.now ≤ 31 }
     ensures value { result ≡ list_at (texts table.now) word.now }
     ensures below { IfSome result (λ bits. bits < 2 ^ length table.now) }
@@ -48,6 +47,18 @@ pub fn list_bits(table: &[&'static str], word: &[u8]) -> Option<u32>
         return Some(0);
     }
     bits_of(table, Some(word))
+}
+
+/// The bits of a word that is a list of a table of at most 31 words: the lowest bit stands for the first word.
+/// `None` where the word is no list.
+pub fn list_bits(table: &[&'static str], word: &[u8]) -> Option<u32>
+    requires { length table.now ≤ 31 }
+    ensures value { result ≡ list_at (texts table.now) word.now }
+    ensures below { IfSome result (λ bits. bits < 2 ^ length table.now) }
+    ensures some { IfSome result (λ bits. list_text_of (texts table.now) bits ≡ word.now) }
+    ensures none { is_table (texts table.now) ≡ true → IfNone result ((bits : ℕ) → bits < 2 ^ length table.now → list_text_of (texts table.now) bits ≢ word.now) }
+{
+    bits_of_word(table, word)
 }
 
 /// Puts the words whose bits are set behind what is there, with a bar before each.

@@ -28,7 +28,12 @@ fn push_part(tokens: &mut Tokens, number: usize, at: usize, size: usize) -> Resu
 }
 
 /// Puts the tokens of a line behind the others. The line has this number, and its first byte lies at `start`.
-fn push_line(tokens: &mut Tokens, number: usize, start: usize, line: &[u8]) -> Result<(), OutOfMemory>
+fn push_line(
+    tokens: &mut Tokens,
+    number: usize,
+    start: usize,
+    line: &[u8],
+) -> Result<(), OutOfMemory>
     requires counted { number ≤ start + 1 }
     requires room { start + length line.now < 2 ^ 32 }
     ensures { OnOk result (tokens.new ≡ tokens.old ++ line_tokens number start (parts_of 32 line.now)) }

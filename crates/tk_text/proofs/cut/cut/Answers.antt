@@ -1,5 +1,5 @@
 -- The parts, by the place of the first mark.
-use Rattle.std.proofs.Common.{sym, ◌∙◌}
+use Rattle.std.proofs.Common.{sym}
 use Rattle.tk_text.proofs.Cuts.{parts_at, parts_alone}
 use Rattle.tk_text.proofs.cut.cut.Goals as goal
 

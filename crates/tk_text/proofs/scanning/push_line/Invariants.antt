@@ -9,7 +9,7 @@ abbrev pub invariant-parts : goal.invariant-parts
 invariant-parts l = record {
   same : l.tokens ++ line_tokens l.number l.at (parts_left 32 (option_copied l.left)) ≡ l.fn.tokens ++ line_tokens l.number l.start (parts_of 32 l.line);
   room : l.at + room_left (option_copied l.left) ≡ l.start + (length l.line + 1);
-  counted : l.number ≤ l.at + 1
+  counted : l.number ≤ l.at + 1;
 }
 
 abbrev pub decreases-parts : goal.decreases-parts
