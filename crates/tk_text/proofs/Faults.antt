@@ -3,7 +3,7 @@ use Rattle.std.proofs.Common.{◌≡◌, ℕ, ◌+◌, ◌<◌, Bool, false, Lis
 use Rattle.std.specs.Option.{option_map, IfSome}
 use Rattle.std.specs.List.{list_all}
 use Rattle.tk_types.specs.declared.why.Why.{Why}
-use Rattle.tk_text.specs.Words.{lines_of, line_fault, fault_or, faults_from, fault_at}
+use Rattle.tk_model.specs.Words.{lines_of, line_fault, fault_or, faults_from, fault_at}
 use Rattle.tk_text.specs.Scans.{IsFirstFault}
 use Rattle.tk_text.specs.declared.token.TextFault.{TextFault}
 

@@ -9,8 +9,8 @@ use Rattle.std.proofs.lemmas.Nat.{pow_pos}
 use Rattle.std.proofs.lemmas.Bool.Decides.{Decides-eqb}
 use Rattle.std.proofs.Math.Nat.{pow-suc, pow-zero}
 use Rattle.tk_text.proofs.Options.{both_true}
-use Rattle.tk_text.specs.Words.{parts_of}
-use Rattle.tk_text.specs.Lists.{chosen, with_bit, without_bit, bits_of, list_at, list_text_of, is_list_byte, is_table}
+use Rattle.tk_model.specs.Words.{parts_of}
+use Rattle.tk_model.specs.Lists.{chosen, with_bit, without_bit, bits_of, list_at, list_text_of, is_list_byte, is_table}
 
 -- where a mapped option has a value
 mapped : (f : ℕ → ℕ) (r : Option ℕ) (y : ℕ) → option_map f r ≡ Some y → (x : ℕ) × (r ≡ Some x) × (f x ≡ y)

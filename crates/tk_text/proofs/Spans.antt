@@ -6,7 +6,7 @@ use Rattle.std.proofs.lemmas.List.{take_at, take_all, drop_at, map-append}
 use Rattle.std.proofs.lemmas.List.Splits.{join_with_byte-slice_split, length-slice_split}
 use Rattle.std.proofs.lemmas.List.Sums.{count_by-le-length}
 use Rattle.std.proofs.lemmas.Bool.Decides.{nat_tests}
-use Rattle.tk_text.specs.Words.{parts_of, lines_of, is_word, numbered, words_from}
+use Rattle.tk_model.specs.Words.{parts_of, lines_of, is_word, numbered, words_from}
 use Rattle.tk_text.specs.Tokens.{part_token, line_tokens, text_tokens, read_token, SpansRise}
 use Rattle.tk_text.specs.declared.token.Token.{Token}
 

@@ -1,6 +1,6 @@
 -- What the scan of a text gives.
 use Rattle.std.specs.Prelude.{◌≡◌, ℕ, ◌-◌, ◌<◌, List, [], length, map, take, slice_index_or, Some, None}
-use Rattle.tk_text.specs.Words.{lines_of, numbered_words, line_fault, faults_from, fault_at}
+use Rattle.tk_model.specs.Words.{lines_of, numbered_words, line_fault, faults_from, fault_at}
 use Rattle.tk_text.specs.Tokens.{read_token, SpansRise}
 use Rattle.tk_text.specs.declared.token.TextFault.{TextFault}
 use Rattle.tk_text.specs.declared.token.Scanned.{Scanned}

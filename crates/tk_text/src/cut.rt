@@ -3,7 +3,7 @@
 ghost use Rattle.std.specs.Prelude.{◌≡◌, ◌+◌, ◌<◌, ◌==◌, ◌∷◌, length, IfSome};
 ghost use Rattle.std.specs.List.{position};
 ghost use Rattle.std.specs.Option.{option_copied};
-ghost use Rattle.tk_text.specs.Words.{parts_of};
+ghost use Rattle.tk_model.specs.Words.{parts_of};
 ghost use Rattle.tk_text.specs.Tokens.{parts_left, room_left};
 
 /// Where the first mark lies.

@@ -4,7 +4,7 @@ ghost use Rattle.std.specs.Prelude.{◌≡◌, ◌<◌, ◌^◌, false, length, 
 ghost use Rattle.std.specs.Option.{option_map};
 ghost use Rattle.std.specs.List.{list_all};
 ghost use Rattle.tk_text.specs.Scans.{IsFirstFault};
-ghost use Rattle.tk_text.specs.Words.{is_text_byte, line_fault, fault_at};
+ghost use Rattle.tk_model.specs.Words.{is_text_byte, line_fault, fault_at};
 
 use crate::cut::cut;
 use crate::token::TextFault;
@@ -14,7 +14,7 @@ use tk_types::Why;
 const LONGEST_LINE: usize = 200;
 
 /// Whether a byte may stand in a line.
-#[tactic(auto, unfolding(crate::specs::Words::is_text_byte))]
+#[tactic(auto, unfolding(tk_model::specs::Words::is_text_byte))]
 fn is_text_byte(byte: u8) -> bool
     ensures { result ≡ is_text_byte byte }
 {
@@ -29,7 +29,7 @@ fn is_text_line(line: &[u8]) -> bool
 }
 
 /// What a line shows by itself: first a byte that may not stand there, then too many bytes.
-#[tactic(auto, unfolding(crate::specs::Words::line_fault), using(crate::proofs::Faults::fault_has_bytes))]
+#[tactic(auto, unfolding(tk_model::specs::Words::line_fault), using(crate::proofs::Faults::fault_has_bytes))]
 fn line_fault(line: &[u8]) -> Option<Why>
     ensures value { result ≡ line_fault line.now }
     ensures bytes { IfSome result (λ _. 0 < length line.now) }

@@ -1,7 +1,7 @@
 //! A text as its words.
 
 ghost use Rattle.std.specs.Prelude.{◌≡◌, ◌+◌, ◌-◌, ◌<◌, ◌≤◌, ◌^◌, [], ◌++◌, length, map, take, OnOk, IfOk};
-ghost use Rattle.tk_text.specs.Words.{parts_of, lines_of, words_from, numbered_words};
+ghost use Rattle.tk_model.specs.Words.{parts_of, lines_of, words_from, numbered_words};
 ghost use Rattle.tk_text.specs.Scans.{IsScan};
 ghost use Rattle.tk_text.specs.Tokens.{part_token, line_tokens, text_tokens, read_token, SpansRise};
 

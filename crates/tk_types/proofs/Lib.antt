@@ -1,1 +1,2 @@
+pub mod CallNameLaws
 pub mod NameCells

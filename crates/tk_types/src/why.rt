@@ -1,5 +1,8 @@
 //! Why a text is refused.
 
+ghost use Rattle.std.specs.Prelude.{◌≡◌};
+ghost use Rattle.tk_types.specs.Reasons.{why_text};
+
 /// Why a line of a text is refused.
 #[derive(Clone, Copy, Debug, PartialEq, Eq)]
 pub enum Why {
@@ -35,4 +38,31 @@ pub enum Why {
     Trace,
     /// What a later version reads.
     Later,
+}
+
+impl Why {
+    /// The word of the reason, as a refusal prints it.
+    #[tactic(auto, unfolding(crate::specs::Reasons::why_text))]
+    pub fn text(self) -> &'static str
+        ensures { result.now ≡ why_text self }
+    {
+        match self {
+            Why::Long => "long",
+            Why::Byte => "byte",
+            Why::Line => "line",
+            Why::Head => "head",
+            Why::Order => "order",
+            Why::Word => "word",
+            Why::Count => "count",
+            Why::Number => "number",
+            Why::Name => "name",
+            Why::List => "list",
+            Why::End => "end",
+            Why::Unknown => "unknown",
+            Why::Kind => "kind",
+            Why::Journal => "journal",
+            Why::Trace => "trace",
+            Why::Later => "later",
+        }
+    }
 }

@@ -1,6 +1,6 @@
 -- The exact answer, by the laws of lists.
 use Rattle.std.proofs.lemmas.List.{length-map}
-use Rattle.tk_text.specs.Lists.{texts}
+use Rattle.tk_model.specs.Lists.{texts}
 use Rattle.tk_text.proofs.ListLaws.{some_list, no_list}
 use Rattle.tk_text.proofs.list.list_bits.Goals as goal
 

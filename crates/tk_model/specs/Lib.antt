@@ -1,0 +1,15 @@
+pub mod Orders
+pub mod Choice
+pub mod Checks
+pub mod Base
+pub mod TaskCalls
+pub mod Statements
+pub mod State
+pub mod Step
+pub mod Trace
+pub mod LineText
+pub mod Machine
+pub mod Decimals
+pub mod Words
+pub mod Lists
+pub mod Rows
