@@ -6,7 +6,7 @@ ghost use Rattle.std.specs.List.{list_all};
 ghost use Rattle.tk_text.specs.Scans.{IsFirstFault};
 ghost use Rattle.tk_model.specs.Words.{is_text_byte, line_fault, fault_at};
 
-use crate::cut::cut;
+use crate::cutting::cut;
 use crate::token::TextFault;
 use tk_types::Why;
 
@@ -30,7 +30,7 @@ fn is_text_line(line: &[u8]) -> bool
 
 /// What a line shows by itself: first a byte that may not stand there, then too many bytes.
 #[tactic(auto, unfolding(tk_model::specs::Words::line_fault), using(crate::proofs::Faults::fault_has_bytes))]
-fn line_fault(line: &[u8]) -> Option<Why>
+pub fn line_fault(line: &[u8]) -> Option<Why>
     ensures value { result ≡ line_fault line.now }
     ensures bytes { IfSome result (λ _. 0 < length line.now) }
 {

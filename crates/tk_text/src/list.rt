@@ -5,7 +5,7 @@ ghost use Rattle.std.specs.Option.{option_copied};
 ghost use Rattle.tk_model.specs.Lists.{texts, chosen, bits_of, list_at, list_text_of, barred, between_bars, is_table};
 ghost use Rattle.tk_text.specs.Tokens.{parts_left};
 
-use crate::cut::cut;
+use crate::cutting::cut;
 use tk_types::OutOfMemory;
 
 /// The bits of the parts that are left, which must be words of the table in its order.
