@@ -1,5 +1,6 @@
 pub mod Orders
 pub mod Choice
+pub mod Precedence
 pub mod Checks
 pub mod Base
 pub mod TaskCalls
