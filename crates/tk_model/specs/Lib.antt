@@ -10,6 +10,9 @@ pub mod Step
 pub mod Trace
 pub mod LineText
 pub mod Machine
+pub mod Decimals
+pub mod Words
+pub mod Lists
 pub mod Rows
 pub mod LineRanges
 pub mod Journal

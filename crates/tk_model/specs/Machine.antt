@@ -1,5 +1,5 @@
 -- What contracts see of a machine, and what its calls do to that.
-use Rattle.std.specs.Prelude.{ℕ, ◌≡◌, ◌<◌, ◌≤◌, Bool, true, false, List, [], ◌∷◌, ◌++◌, Option, Some, None}
+use Rattle.std.specs.Prelude.{ℕ, Bool, false, List, ◌++◌, Option, Some, None}
 use Rattle.tk_types.specs.declared.script.Script.{Script}
 use Rattle.tk_types.specs.declared.run.Mode.{Mode}
 use Rattle.tk_types.specs.declared.run.End.{End}

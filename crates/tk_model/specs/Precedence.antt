@@ -30,3 +30,10 @@ pub record Precedes (b : Base) (t : ℕ) : Type 0 where
 abbrev pub NoneReady : (ℕ → Bool) → List ℕ → Type 0
 NoneReady ready [] = Unit {0}
 NoneReady ready (t ∷ ts) = (ready t ≡ true → ⊥) × NoneReady ready ts
+
+-- each ready task that stands before this one has a lower priority: it is the first of its equals
+pub record KeepsPlace (b : Base) (t : ℕ) : Type 0 where
+  pub before : List ℕ
+  pub behind : List ℕ
+  pub stands : b.order ≡ before ++ t ∷ behind
+  pub ahead : AllLower (is_ready b) (current b) (current b t) before

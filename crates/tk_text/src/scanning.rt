@@ -1,11 +1,11 @@
 //! A text as its words.
 
 ghost use Rattle.std.specs.Prelude.{◌≡◌, ◌+◌, ◌-◌, ◌<◌, ◌≤◌, ◌^◌, [], ◌++◌, length, map, take, OnOk, IfOk};
-ghost use Rattle.tk_text.specs.Words.{parts_of, lines_of, words_from, numbered_words};
+ghost use Rattle.tk_model.specs.Words.{parts_of, lines_of, words_from, numbered_words};
 ghost use Rattle.tk_text.specs.Scans.{IsScan};
 ghost use Rattle.tk_text.specs.Tokens.{part_token, line_tokens, text_tokens, read_token, SpansRise};
 
-use crate::cut::cut;
+use crate::cutting::cut;
 use crate::fault::fault_of;
 use crate::token::{Scanned, Token, Tokens};
 use std::alloc::Global;

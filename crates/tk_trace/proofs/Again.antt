@@ -28,7 +28,7 @@ use Rattle.tk_types.specs.Codes.{coded, error_text}
 use Rattle.tk_types.specs.Names.{is_name_byte, name_at_most}
 use Rattle.tk_types.proofs.CallNameLaws.{named_text_of}
 use Rattle.tk_types.proofs.ErrorLaws.{error_named_text, coded_code}
-use Rattle.tk_text.specs.Decimals.{number_at}
+use Rattle.tk_model.specs.Decimals.{number_at}
 use Rattle.tk_text.proofs.Decimals.{natural_at_again, number_at_again}
 use Rattle.tk_model.specs.LineText.{value_text, named_value, answer_words, handler_text, words_of}
 use Rattle.tk_model.specs.LineRanges.{no_fields, IsAnswer, IsLine}

@@ -6,8 +6,8 @@ use Rattle.std.proofs.Math.ListN.{get_or-map, drop_of_length-le}
 use Rattle.std.proofs.lemmas.List.{length-map, take_more_set, drop-set-lt, drop-drop, take-append-drop, length-take-le}
 use Rattle.std.proofs.lemmas.Bool.{le-ltb}
 use denote.Ref.{Bor}
-use Rattle.tk_text.specs.Decimals.{number_at}
-use Rattle.tk_text.specs.Lists.{texts}
+use Rattle.tk_model.specs.Decimals.{number_at}
+use Rattle.tk_model.specs.Lists.{texts}
 use Rattle.tk_model.specs.LineRanges.{no_fields}
 use Rattle.tk_trace.specs.Reading.{with_front, numbers_at, padded, fields_at}
 

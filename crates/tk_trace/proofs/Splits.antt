@@ -6,7 +6,7 @@ use Rattle.std.proofs.lemmas.List.Folds.{list_all-append}
 use Rattle.std.proofs.lemmas.List.Splits.{slice_split_at, slice_split_none, join_with_byte-slice_split}
 use Rattle.std.proofs.lemmas.List.Sums.{AllPass-from_list_all}
 use Rattle.tk_text.proofs.Options.{both_true}
-use Rattle.tk_text.specs.Words.{parts_of}
+use Rattle.tk_model.specs.Words.{parts_of}
 use Rattle.tk_model.specs.LineText.{spaced, joined}
 use Rattle.tk_trace.proofs.Plain.{is_plain, are_plain, both, weaker}
 

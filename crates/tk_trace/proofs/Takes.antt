@@ -8,8 +8,8 @@ use Rattle.std.proofs.lemmas.Slice.Eq.{bytes_eq-Decides}
 use Rattle.tk_types.specs.declared.line.Entry.{Entry}
 use Rattle.tk_types.specs.declared.line.How.{How}
 use Rattle.tk_types.specs.declared.line.How.TheVariants as hows
-use Rattle.tk_text.specs.Decimals.{natural_at}
-use Rattle.tk_text.specs.Words.{parts_of}
+use Rattle.tk_model.specs.Decimals.{natural_at}
+use Rattle.tk_model.specs.Words.{parts_of}
 use Rattle.tk_text.specs.Tokens.{parts_left}
 use Rattle.tk_text.proofs.Decimals.{natural_at_some}
 use Rattle.tk_text.proofs.Options.{value_chosen}

@@ -9,7 +9,7 @@ use Rattle.std.proofs.lemmas.List.Sums.{AllPass-from_list_all}
 use Rattle.tk_types.specs.declared.line.Line.{Line}
 use Rattle.tk_types.specs.declared.line.Line.TheVariants as lines
 use Rattle.tk_types.specs.declared.line.Entry.{Entry}
-use Rattle.tk_text.specs.Words.{parts_of}
+use Rattle.tk_model.specs.Words.{parts_of}
 use Rattle.tk_model.specs.LineText.{words_of, joined, text_of_line}
 use Rattle.tk_model.specs.LineRanges.{IsLine}
 use Rattle.tk_model.specs.Journal.{words_of_entry, text_of_entry, IsEntry}

@@ -17,7 +17,7 @@ use Rattle.tk_types.specs.declared.line.LastLine.TheVariants as lasts
 use Rattle.tk_types.specs.CallNames.{named}
 use Rattle.tk_types.specs.Codes.{code_of, error_named}
 use Rattle.tk_types.specs.Names.{name_at_most}
-use Rattle.tk_text.specs.Decimals.{natural_at, number_at}
+use Rattle.tk_model.specs.Decimals.{natural_at, number_at}
 use Rattle.tk_model.specs.LineRanges.{no_fields}
 
 -- one word after another, where each may spell nothing

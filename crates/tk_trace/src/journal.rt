@@ -3,13 +3,13 @@
 ghost use Rattle.std.specs.Prelude.{◌≡◌, ◌≢◌, IfOk, IfSome, IfNone};
 ghost use Rattle.std.specs.List.{filter_map};
 ghost use Rattle.tk_types.specs.declared.line.Entry.{Entry as TheEntry};
-ghost use Rattle.tk_text.specs.Words.{parts_of};
+ghost use Rattle.tk_model.specs.Words.{parts_of};
 ghost use Rattle.tk_model.specs.Journal.{IsHow, IsEntry, text_of_entry, how_of, entry_of, journal_of};
 ghost use Rattle.tk_trace.specs.Entries.{how_at, entry_at};
 
 use crate::words::{u8_at, u32_at};
 use std::alloc::{AllocError, Global};
-use tk_text::cut_at;
+use tk_text::cut;
 use tk_types::{Entry, How, Line, LineEnding, OutOfMemory};
 
 /// How the words of a text say that a request ended.
@@ -18,7 +18,7 @@ fn how_at(text: &[u8]) -> Option<How>
     ensures value { result ≡ how_at (parts_of 32 text.now) }
     ensures how { IfSome result IsHow }
 {
-    let (word, rest) = cut_at(text, b' ');
+    let (word, rest) = cut(text, b' ');
     let Some(rest) = rest else {
         return if word == b"done".as_slice() {
             Some(How::Done)
@@ -26,7 +26,7 @@ fn how_at(text: &[u8]) -> Option<How>
             None
         };
     };
-    let (size, behind) = cut_at(rest, b' ');
+    let (size, behind) = cut(rest, b' ');
     if behind.is_some() {
         return None;
     }
@@ -43,9 +43,9 @@ fn entry_at(text: &[u8]) -> Option<Entry>
     ensures value { result ≡ entry_at (parts_of 32 text.now) }
     ensures entry { IfSome result IsEntry }
 {
-    let (place, rest) = cut_at(text, b' ');
-    let (device, rest) = cut_at(rest?, b' ');
-    let (request, rest) = cut_at(rest?, b' ');
+    let (place, rest) = cut(text, b' ');
+    let (device, rest) = cut(rest?, b' ');
+    let (request, rest) = cut(rest?, b' ');
     let place = u32_at(place)?;
     let device = u8_at(device)?;
     let request = u8_at(request)?;

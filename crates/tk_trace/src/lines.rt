@@ -1,7 +1,7 @@
 //! What stands behind the tag of a line, and the lines.
 
 ghost use Rattle.std.specs.Prelude.{◌≡◌, IfSome};
-ghost use Rattle.tk_text.specs.Lists.{texts};
+ghost use Rattle.tk_model.specs.Lists.{texts};
 ghost use Rattle.tk_model.specs.LineRanges.{IsEnding, IsHook, IsEnd, IsLine};
 ghost use Rattle.tk_trace.specs.Reading.{done_at, cut_at, ending_at, service_at, switch_at, start_at, hook_at, unfit_at, plain_end_at, end_at, dispatch_line_at, returned_line_at, blocked_line_at, released_line_at, tick_line_at, started_line_at, ending_line_at, hook_line_at, said_at, said_line_at, end_line_at, line_of_tag, line_at};
 

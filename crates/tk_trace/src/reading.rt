@@ -3,8 +3,8 @@
 ghost use Rattle.std.specs.Prelude.{◌≡◌, ◌≢◌, IfOk, IfSome, IfNone};
 ghost use Rattle.std.specs.Str.{bytes_eq};
 ghost use Rattle.tk_types.specs.declared.line.Line.{Line as TheLine};
-ghost use Rattle.tk_text.specs.Lists.{texts};
-ghost use Rattle.tk_text.specs.Words.{parts_of};
+ghost use Rattle.tk_model.specs.Lists.{texts};
+ghost use Rattle.tk_model.specs.Words.{parts_of};
 ghost use Rattle.tk_model.specs.LineRanges.{IsLine};
 ghost use Rattle.tk_model.specs.LineText.{text_of_line};
 ghost use Rattle.tk_trace.specs.Reading.{line_at};

@@ -4,7 +4,7 @@ ghost use Rattle.std.specs.Prelude.{◌≡◌, ◌≤◌, ◌<◌, ◌^◌, ◌+
 ghost use Rattle.std.specs.Int.{w32};
 ghost use Rattle.std.specs.Int.RustNames.{FitsSigned};
 ghost use Rattle.std.specs.List.{All};
-ghost use Rattle.tk_text.specs.Lists.{texts};
+ghost use Rattle.tk_model.specs.Lists.{texts};
 ghost use Rattle.tk_model.specs.LineRanges.{no_fields, IsAnswer};
 ghost use Rattle.tk_trace.specs.Reading.{u8_at, u32_at, value_at, fields_at, answer_at, handler_at};
 

@@ -1,7 +1,7 @@
 -- The tokens so far, and those of what is left of the first lines, are those of the first lines.
 use Rattle.std.proofs.Common.{◌≡◌, ◌+◌, ◌-◌, ◌≤◌, ◌++◌, length, take}
 use Rattle.std.specs.Option.{option_copied}
-use Rattle.tk_text.specs.Words.{lines_of}
+use Rattle.tk_model.specs.Words.{lines_of}
 use Rattle.tk_text.specs.Tokens.{text_tokens, parts_left, room_left}
 use Rattle.tk_text.proofs.scanning.first_tokens.Given as goal
 

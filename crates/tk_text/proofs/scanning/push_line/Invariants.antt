@@ -1,7 +1,7 @@
 -- The tokens so far, and those of what is left, are those of the whole line.
 use Rattle.std.proofs.Common.{◌≡◌, ◌+◌, ◌≤◌, ◌++◌, length}
 use Rattle.std.specs.Option.{option_copied}
-use Rattle.tk_text.specs.Words.{parts_of}
+use Rattle.tk_model.specs.Words.{parts_of}
 use Rattle.tk_text.specs.Tokens.{line_tokens, parts_left, room_left}
 use Rattle.tk_text.proofs.scanning.push_line.Given as goal
 

@@ -3,7 +3,7 @@ use Rattle.std.proofs.Common.{◌≡◌, length, take, drop}
 use Rattle.std.specs.Int.{w32}
 use Rattle.std.specs.Int.RustNames.{FitsSigned}
 use Rattle.std.specs.List.{All}
-use Rattle.tk_text.specs.Lists.{texts}
+use Rattle.tk_model.specs.Lists.{texts}
 use Rattle.tk_model.specs.LineRanges.{no_fields}
 use Rattle.tk_trace.specs.Reading.{with_front, numbers_at}
 use Rattle.tk_trace.proofs.words.fields_at.Given as goal

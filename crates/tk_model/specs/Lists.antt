@@ -4,7 +4,7 @@ use Rattle.std.specs.Prelude.{ℕ, ◌+◌, ◌*◌, ◌/◌, ◌%◌, Bool, tru
 use Rattle.std.specs.Option.{option_map}
 use Rattle.std.specs.List.{join_with_byte, list_all, list_any}
 use Rattle.std.specs.Str.{bytes_eq}
-use Rattle.tk_text.specs.Words.{parts_of}
+use Rattle.tk_model.specs.Words.{parts_of}
 use denote.Ref.{Bor}
 
 -- what the texts of a table are

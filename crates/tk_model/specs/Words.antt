@@ -1,5 +1,5 @@
 -- A text as lines, a line as words, and what a line shows by itself.
-use Rattle.std.specs.Prelude.{ℕ, ◌+◌, Bool, ◌==◌, nat_lt, nat_le, ◌&&◌, if◌then◌else◌, List, [], ◌∷◌, ◌++◌, length, map, Option, Some, None}
+use Rattle.std.specs.Prelude.{ℕ, ◌+◌, Bool, not, ◌==◌, nat_lt, nat_le, ◌&&◌, if◌then◌else◌, List, [], ◌∷◌, ◌++◌, length, map, Option, Some, None}
 use Rattle.std.specs.List.{slice_split, filter, list_all}
 use Rattle.tk_types.specs.declared.why.Why.{Why}
 use Rattle.tk_types.specs.declared.why.Why.TheVariants.{Byte, Line}
@@ -14,7 +14,7 @@ lines_of text = parts_of 10 text
 
 -- a part with bytes
 abbrev pub is_word : List ℕ → Bool
-is_word part = nat_lt 0 (length part)
+is_word part = not (length part == 0)
 
 -- the words of a line
 abbrev pub words_of : List ℕ → List (List ℕ)

@@ -1,10 +1,14 @@
 //! A slice of bytes cut at a mark.
 
-ghost use Rattle.std.specs.Prelude.{◌≡◌, ◌+◌, ◌<◌, ◌==◌, ◌∷◌, length, IfSome};
+ghost use Rattle.std.specs.Prelude.{◌≡◌, ◌+◌, ◌<◌, ◌==◌, ◌∷◌, length, IfOk, IfSome};
 ghost use Rattle.std.specs.List.{position};
 ghost use Rattle.std.specs.Option.{option_copied};
-ghost use Rattle.tk_text.specs.Words.{parts_of};
+ghost use Rattle.tk_model.specs.Words.{parts_of, words_of};
+ghost use Rattle.tk_model.specs.Lists.{texts};
 ghost use Rattle.tk_text.specs.Tokens.{parts_left, room_left};
+
+use std::alloc::Global;
+use tk_types::OutOfMemory;
 
 /// Where the first mark lies.
 fn first_mark(bytes: &[u8], mark: u8) -> Option<usize>
@@ -23,4 +27,15 @@ pub fn cut(bytes: &[u8], mark: u8) -> (&[u8], Option<&[u8]>)
         Some(at) => (&bytes[..at], Some(&bytes[at + 1..])),
         None => (bytes, None),
     }
+}
+
+/// The words of a line, in order.
+pub fn line_words<'a>(alloc: Global, line: &'a [u8]) -> Result<Vec<&'a [u8]>, OutOfMemory>
+    ensures { IfOk result (λ words. texts words.items ≡ words_of line.now) }
+{
+    let words = line
+        .split(|byte| *byte == b' ')
+        .filter(|part| !part.is_empty())
+        .collect(alloc)?;
+    Ok(words)
 }

@@ -1,9 +1,9 @@
 -- The first fault is the first one of what is left.
 use Rattle.std.proofs.Common.{◌≡◌, ◌+◌, ◌≤◌, length}
 use Rattle.std.specs.Option.{option_copied}
-use Rattle.tk_text.specs.Words.{faults_from, lines_of}
+use Rattle.tk_model.specs.Words.{faults_from, lines_of}
 use Rattle.tk_text.specs.Tokens.{parts_left, room_left}
-use Rattle.tk_text.proofs.fault.fault_of.Given as goal
+use Rattle.tk_text.proofs.fault.first_fault.Given as goal
 
 abbrev pub invariant-lines : goal.invariant-lines
 invariant-lines l = record {
