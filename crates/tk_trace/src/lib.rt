@@ -6,6 +6,8 @@ pub mod laws;
 mod lines;
 mod printing;
 mod reading;
+#[cfg(test)]
+mod tests;
 mod words;
 
 pub use journal::{journal_of, read_entry};
