@@ -91,3 +91,9 @@ entry_found text (Some found) is entry = (entry_text text found (sym is), entry)
 pub entry_not_found : (text : List ℕ) (read : Option Entry) → read ≡ entry_at (parts_of 32 text) → IfNone read ((entry : Entry) → IsEntry entry → text ≢ text_of_entry entry)
 entry_not_found text None is = no_entry text (sym is)
 entry_not_found text (Some found) is = tt
+
+pub entries_same : (a b : Entry) → IsEntry a → IsEntry b → text_of_entry a ≡ text_of_entry b → a ≡ b
+entries_same a b is_a is_b e =
+    let one : entry_at (parts_of 32 (text_of_entry b)) ≡ Some a = subst (λ (text : List ℕ). entry_at (parts_of 32 text) ≡ Some a) e (entry_text_read a is_a) in
+    let two = entry_text_read b is_b in
+    let same : Some a ≡ Some b = sym one ∙ two in cc

@@ -277,7 +277,8 @@ fn put_line(line: &Line, out: &mut Vec<u8>) -> Result<(), OutOfMemory>
     }
 }
 
-/// Appends the text of a line, without a line feed. Where memory runs out `out` stays as it was.
+/// Appends the text of a line, without a line feed: its words with one space between them. Where memory runs out
+/// `out` stays as it was.
 pub fn line_text(line: &Line, out: &mut Vec<u8>) -> Result<(), OutOfMemory>
     ensures grown { OnOk result (out.new.items ≡ out.old.items ++ text_of_line line.now) }
     ensures kept { OnErr result (out.new.items ≡ out.old.items) }
