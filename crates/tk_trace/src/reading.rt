@@ -40,7 +40,7 @@ fn is_text_of(alloc: Global, line: &Line, text: &[u8]) -> Result<bool, OutOfMemo
     Ok(printed.as_slice() == text)
 }
 
-/// The line whose text this is, `None` exactly where no line has this text. The text has no line feed. A value that
+/// The line whose text this is, `None` exactly where no line has this text. A value that
 /// has a name is read by its name alone, so that each line has one text.
 pub fn read_line(alloc: Global, text: &[u8]) -> Result<Option<Line>, OutOfMemory>
     ensures some { IfOk result (λ read. IfSome read (λ line. (text.now ≡ text_of_line line) × IsLine line)) }
