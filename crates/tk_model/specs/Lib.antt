@@ -10,4 +10,7 @@ pub mod Step
 pub mod Trace
 pub mod LineText
 pub mod Machine
+pub mod Decimals
+pub mod Words
+pub mod Lists
 pub mod Rows
