@@ -7,4 +7,7 @@ pub mod State
 pub mod Step
 pub mod Trace
 pub mod LineText
+pub mod NumberWords
+pub mod ScriptText
+pub mod ScriptReading
 pub mod Rows
