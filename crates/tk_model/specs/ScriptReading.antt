@@ -9,6 +9,9 @@ use Rattle.tk_types.specs.declared.call_name.ArgumentKind.TheVariants as kinds
 use Rattle.tk_types.specs.declared.call_name.CallName.{CallName}
 use Rattle.tk_types.specs.declared.call_name.CallName.TheVariants.{TkCreTsk, TkStaTsk, TkSlpTsk, TkWupTsk, TkExtTsk}
 use Rattle.tk_types.specs.declared.script.Script.{Script}
+use Rattle.tk_types.specs.declared.script.Reading.{Reading}
+use Rattle.tk_types.specs.declared.script.Reading.TheVariants as readings
+use Rattle.tk_types.specs.declared.why.Why.TheVariants.{Later}
 use Rattle.tk_types.specs.declared.script.Boot.{Boot}
 use Rattle.tk_types.specs.declared.script.Body.{Body}
 use Rattle.tk_types.specs.declared.script.BodyKind.TheVariants.{Task}
@@ -219,3 +222,8 @@ compared text script = if is_form (printed script) text then Some script else No
 unfoldable pub reading_first : List ℕ → Option Script
 reading_first text =
     if nat_le (length text) 1048576 then and_then (script_at (split_lines text)) (compared text) else None
+
+-- what is answered: the script, or a refusal at no line
+abbrev pub answer_first : Option Script → Reading
+answer_first None = readings.Refused 0 Later
+answer_first (Some script) = readings.Script script
