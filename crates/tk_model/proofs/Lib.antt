@@ -1,3 +1,5 @@
 pub mod Choices
 pub mod NumberLaws
 pub mod FirstTakes
+pub mod Splits
+pub mod FirstAgain
