@@ -3,3 +3,4 @@ pub mod NumberLaws
 pub mod FirstTakes
 pub mod Splits
 pub mod FirstAgain
+pub mod ReadingLaws
