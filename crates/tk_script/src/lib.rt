@@ -12,6 +12,8 @@ mod put;
 mod read;
 mod reading;
 mod statements;
+#[cfg(test)]
+mod tests;
 mod words;
 
 pub use print_lines::print_script;
