@@ -1,5 +1,5 @@
 -- Choices between values.
-use Rattle.std.proofs.Common.{Bool, Err, None, Ok, Option, Result, Some, arith, cond, eqb, false, not, refl, suc, sym, true, zero, ℕ, ◌&&◌, ◌||◌, ◌≡◌, ◌≤◌}
+use Rattle.std.proofs.Common.{Bool, Err, None, Ok, Option, Result, Some, arith, cond, eqb, false, not, refl, sym, true, ℕ, ◌&&◌, ◌||◌, ◌≡◌, ◌≤◌}
 use Rattle.std.specs.Result.{IfOk}
 use Rattle.std.specs.Bool.{Decides}
 use Rattle.std.proofs.lemmas.Bool.Decides.{nat_tests}

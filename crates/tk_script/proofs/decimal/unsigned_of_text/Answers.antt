@@ -1,5 +1,5 @@
 -- A word that isn't read, or is read as a number with another text, is no number's text.
-use Rattle.std.proofs.Common.{◌≡◌, ◌∙◌, ap, rules}
+use Rattle.std.proofs.Common.{◌∙◌}
 use Rattle.std.proofs.lemmas.Slice.Eq.{slice_eq-Decides}
 use Rattle.std.proofs.lemmas.Bool.Decides.{Decides-eqb, not_from_Decides}
 use Rattle.tk_model.proofs.NumberLaws.{decimal_is_utf8, unread_natural, other_natural}
