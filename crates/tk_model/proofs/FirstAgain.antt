@@ -23,7 +23,8 @@ use Rattle.tk_types.specs.declared.script.Arg.{Arg}
 use Rattle.tk_types.specs.declared.script.Arg.TheVariants as args
 use Rattle.tk_types.specs.declared.script.Stmt.{Stmt}
 use Rattle.tk_types.specs.declared.script.Stmt.TheVariants.{Say, Call}
-use Rattle.tk_model.specs.ScriptText.{dash, IsBodyNumber, IsBody, IsScript, IsBetween, FitsArg, FitsArgs, FitsStmt, all_differ, list_word, body_word, arg_word, arg_words, stmt_words, item_lines, body_kind_word, body_lines, boot_words, head_words, printed_lines, joined, printed, table_of}
+use Rattle.tk_model.specs.Lists.{list_text_of}
+use Rattle.tk_model.specs.ScriptText.{dash, IsBodyNumber, IsBody, IsScript, IsBetween, FitsArg, FitsArgs, FitsStmt, all_differ, body_word, arg_word, arg_words, stmt_words, item_lines, body_kind_word, body_lines, boot_words, head_words, printed_lines, joined, printed, table_of}
 use Rattle.tk_model.specs.ScriptReading.{IsFirstArg, IsFirstCall, IsFirstStmt, IsFirstBody, IsFirstStage, SpellsFirst, number_of_place, body_at, arg_at, args_at, first_call, call_at, name_at, say_at, stmt_at, new_body, with_stmt, outside, inside, line_at, bodies_at, begun, body_names, split_words, split_lines, priority_at, boot_at, are_numbered, script_of, script_from, script_at, is_form, compared, reading_first}
 use Rattle.tk_model.proofs.Choices.{both_true, read_mapped, same_value, neither, is_not, not_zero}
 use Rattle.tk_model.proofs.NumberLaws.{number_at_again, natural_at_again}
@@ -94,16 +95,16 @@ record ArgAgain (names : List (List ℕ)) (bodies : List Body) (kind : ArgumentK
   plain : IsPlain (arg_word bodies kind argument)
   again : arg_at names kind (arg_word bodies kind argument) ≡ Some argument
 
-empty_list_word : (table : List (List ℕ)) (bits : ℕ) → bits ≡ 0 → list_word table bits ≡ dash
-unfolding list_word
-empty_list_word table bits e = rw e refl
+empty_list : (table : List (List ℕ)) (bits : ℕ) → bits ≡ 0 → list_text_of table bits ≡ dash
+unfolding list_text_of
+empty_list table bits e = rw e refl
 
 arg_again : (names : List (List ℕ)) (bodies : List Body) (kind : ArgumentKind) (argument : Arg) → AreFound names bodies → IsFirstKind kind → FitsArg bodies kind argument → IsFirstArg argument → ArgAgain names bodies kind argument
 unfolding IsFirstKind FitsArg IsFirstArg arg_word arg_at
 arg_again names bodies kinds.Value (args.Number number) found is fits first = record { plain = number_plain number fits; again = ap (option_map args.Number) (number_at_again number fits) }
 arg_again names bodies kinds.Value (args.Register register) found is fits first = absurd first
 arg_again names bodies kinds.Value _ found is fits first = absurd fits
-arg_again names bodies kinds.Attributes (args.List bits) found is fits first = record { plain = subst IsPlain (sym (empty_list_word (table_of kinds.Attributes) bits first)) (record { bytes = refl }); again = ap (λ (b : ℕ). Some (args.List b)) (sym first) }
+arg_again names bodies kinds.Attributes (args.List bits) found is fits first = record { plain = subst IsPlain (sym (empty_list (table_of kinds.Attributes) bits first)) (record { bytes = refl }); again = ap (λ (b : ℕ). Some (args.List b)) (sym first) }
 arg_again names bodies kinds.Attributes _ found is fits first = absurd fits
 arg_again names bodies kinds.TaskBody (args.Body n) found is fits first = record { plain = (found n fits).plain; again = ap (option_map args.Body) (found n fits).again }
 arg_again names bodies kinds.TaskBody _ found is fits first = absurd fits

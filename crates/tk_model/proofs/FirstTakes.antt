@@ -22,7 +22,7 @@ use Rattle.tk_types.specs.declared.script.Arg.{Arg}
 use Rattle.tk_types.specs.declared.script.Arg.TheVariants as args
 use Rattle.tk_types.specs.declared.script.Stmt.{Stmt}
 use Rattle.tk_types.specs.declared.script.Stmt.TheVariants.{Say, Call}
-use Rattle.tk_model.specs.NumberWords.{number_at, natural_at}
+use Rattle.tk_model.specs.Decimals.{number_at, natural_at}
 use Rattle.tk_model.specs.ScriptText.{IsBodyNumber, IsBody, IsScript, IsBetween, FitsArg, FitsArgs, FitsStmt, MayCall, PlacesRise, StepsRise, all_differ, printed}
 use Rattle.tk_model.specs.ScriptReading.{and_then, IsFirstArg, IsFirstCall, IsFirstStmt, IsFirstBody, IsFirstStage, SpellsFirst, number_of_place, body_at, arg_at, args_at, first_call, call_at, name_at, say_at, stmt_at, Reached, new_body, with_stmt, closed, outside, inside, line_at, at_end, bodies_at, split_words, split_lines, body_names, priority_of, priority_at, boot_of, boot_at, are_numbered, script_of, script_from, script_at, is_form, compared, reading_first}
 use Rattle.tk_model.proofs.Choices.{both_true, value_chosen, chosen_some, read_next, read_mapped, same_value}

@@ -15,7 +15,7 @@ use Rattle.std.proofs.lemmas.Slice.Eq.{bytes_eq-Decides}
 use Rattle.std.proofs.lemmas.Bool.Decides.{Decides-ltb, Decides-int_eq}
 use lib.Signed.{mag}
 use Rattle.tk_model.proofs.Choices.{both_true, value_chosen, from_test, none_of}
-use Rattle.tk_model.specs.NumberWords.{fits_i32, number_at, natural_at}
+use Rattle.tk_model.specs.Decimals.{fits_i32, number_at, natural_at}
 
 -- a number's text is UTF-8
 pub decimal_is_utf8 : (bs : List ℕ) (n : ℕ) → n < 2 ^ 64 → bs ≡ decimal n → IsUtf8 bs

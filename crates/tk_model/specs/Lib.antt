@@ -1,4 +1,6 @@
 pub mod Orders
+pub mod Choice
+pub mod Precedence
 pub mod Checks
 pub mod Base
 pub mod TaskCalls
@@ -7,7 +9,10 @@ pub mod State
 pub mod Step
 pub mod Trace
 pub mod LineText
-pub mod NumberWords
+pub mod Machine
+pub mod Decimals
+pub mod Words
+pub mod Lists
 pub mod ScriptText
 pub mod ScriptReading
 pub mod Rows

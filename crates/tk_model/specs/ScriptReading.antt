@@ -19,7 +19,7 @@ use Rattle.tk_types.specs.declared.script.Arg.{Arg}
 use Rattle.tk_types.specs.declared.script.Arg.TheVariants as args
 use Rattle.tk_types.specs.declared.script.Stmt.{Stmt}
 use Rattle.tk_types.specs.declared.script.Stmt.TheVariants.{Say, Call}
-use Rattle.tk_model.specs.NumberWords.{number_at, natural_at}
+use Rattle.tk_model.specs.Decimals.{number_at, natural_at}
 use Rattle.tk_model.specs.ScriptText.{IsScript, printed, all_differ}
 
 -- what is read next, where something was read

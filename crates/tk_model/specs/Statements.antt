@@ -1,6 +1,6 @@
 -- What a statement does to its frame, and what it asks of the machine.
-use Rattle.std.specs.Prelude.{ℕ, ◌+◌, ◌-◌, Bool, true, false, ◌==◌, not, ℤ, if◌then◌else◌, List, [], ◌∷◌, ◌++◌, Option, Some, None, map, take, replicate, length, slice_index, slice_get, position, bytes_eq, unwrap_or}
-use Rattle.std.specs.Option.{option_and_then, option_map_or}
+use Rattle.std.specs.Prelude.{ℕ, ◌+◌, ◌-◌, ◌≤◌, ◌==◌, ℤ, if◌then◌else◌, List, [], ◌∷◌, Option, Some, None, replicate, length, slice_index, slice_get, position, bytes_eq}
+use Rattle.std.specs.Option.{option_map_or}
 use Rattle.std.specs.Int.{w32, cast_unsigned}
 use Rattle.tk_types.specs.declared.script.Script.{Script}
 use Rattle.tk_types.specs.declared.script.Body.{Body}
@@ -53,9 +53,20 @@ argument_value script frame (args.List bits) = bits
 argument_value script frame (args.Body body) = body
 argument_value script frame (args.Name name) = device_number script.devices name
 
--- the values of the arguments in five places, 0 behind the last
+-- the value of the argument in a place, 0 behind the last
+abbrev pub value_in : Script → Frame → Option Arg → ℕ
+value_in script frame None = 0
+value_in script frame (Some arg) = argument_value script frame arg
+
+-- the values in the five places that a call may have
 abbrev pub argument_values : Script → Frame → List Arg → List ℕ
-argument_values script frame list = take 5 (map (argument_value script frame) list ++ replicate 5 0)
+argument_values script frame list =
+    value_in script frame (slice_get list 0)
+    ∷ value_in script frame (slice_get list 1)
+    ∷ value_in script frame (slice_get list 2)
+    ∷ value_in script frame (slice_get list 3)
+    ∷ value_in script frame (slice_get list 4)
+    ∷ []
 
 -- the frame has passed one statement more
 abbrev pub passed : Frame → Frame
@@ -79,3 +90,7 @@ call_in _ = None
 -- the call in which a frame's task waits: that of the statement it passed last
 unfoldable pub call_before : Script → Frame → Option CallName
 call_before script frame = call_in (statement_at script (record frame { place = frame.place - 1 }))
+
+-- what the machine needs of a script; every script that a text spells has it
+pub record IsRunnable (script : Script) : Type 0 where
+  pub few_devices : length script.devices ≤ 8

@@ -15,7 +15,7 @@ pub enum Mode {
 #[derive(Clone, Copy, Debug, PartialEq, Eq)]
 pub struct Frame {
     pub body: u8,
-    pub place: u32,
+    pub place: usize,
     pub registers: [u32; 16],
 }
 

@@ -1,11 +1,9 @@
 -- A task that says hello, and ends.
-use Rattle.std.specs.Prelude.{ℕ, pos, negsuc, List, [], ◌∷◌, ◌++◌, None, codes, ◌≡◌, refl}
+use Rattle.std.specs.Prelude.{ℕ, List, [], ◌∷◌, ◌++◌, None, codes, ◌≡◌, refl}
 use Rattle.std.specs.Fmt.{digits}
 use Rattle.tk_types.specs.declared.script.Script.{Script}
-use Rattle.tk_types.specs.declared.script.Body.{Body}
 use Rattle.tk_types.specs.declared.script.BodyKind.TheVariants as kinds
 use Rattle.tk_types.specs.declared.script.Stmt.TheVariants as stmts
-use Rattle.tk_types.specs.declared.script.Arg.TheVariants as args
 use Rattle.tk_types.specs.declared.call_name.CallName.TheVariants as names
 use Rattle.tk_types.specs.declared.run.Mode.TheVariants as modes
 use Rattle.tk_types.specs.declared.run.End.TheVariants as ends
@@ -15,7 +13,7 @@ use Rattle.tk_types.specs.Codes.{code_of, coded, error_text}
 use Rattle.tk_types.specs.Modes.{attributes_of}
 use Rattle.tk_model.specs.Orders.{free_from}
 use Rattle.tk_model.specs.Base.{chosen, free_task}
-use Rattle.tk_model.specs.TaskCalls.{task_check, task_effect}
+use Rattle.tk_model.specs.TaskCalls.{create_task, start_task, exit_task, sleep, wake_up, task_call}
 use Rattle.tk_model.specs.Statements.{fetch, call_before}
 use Rattle.tk_model.specs.Step.{called, ran, with_releases, dispatched, step}
 use Rattle.tk_model.specs.Trace.{start, steps_from, trace}
@@ -51,10 +49,10 @@ lines =
 
 -- the texts of the trace
 row : text_of_lines (trace script modes.Free 100000).lines ≡ lines
-unfolding script lines trace start steps_from step ran called with_releases dispatched fetch call_before task_check task_effect chosen free_task free_from made name_of task_call_name attributes_of code_of coded error_text value_text words_of text_of_line text_of_lines text_of digits
+unfolding script lines trace start steps_from step ran called with_releases dispatched fetch call_before task_call create_task start_task exit_task sleep wake_up chosen free_task free_from made name_of task_call_name attributes_of code_of coded error_text value_text words_of text_of_line text_of_lines text_of digits
 row = refl
 
 -- the end of the run
 end : (trace script modes.Free 100000).end ≡ ends.Idle
-unfolding script lines trace start steps_from step ran called with_releases dispatched fetch call_before task_check task_effect chosen free_task free_from made name_of task_call_name attributes_of code_of coded error_text value_text words_of text_of_line text_of_lines text_of digits
+unfolding script lines trace start steps_from step ran called with_releases dispatched fetch call_before task_call create_task start_task exit_task sleep wake_up chosen free_task free_from made name_of task_call_name attributes_of code_of coded error_text value_text words_of text_of_line text_of_lines text_of digits
 end = refl
