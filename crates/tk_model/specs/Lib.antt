@@ -13,6 +13,8 @@ pub mod Machine
 pub mod Decimals
 pub mod Words
 pub mod Lists
+pub mod ScriptText
+pub mod ScriptReading
 pub mod Rows
 pub mod LineRanges
 pub mod Journal
