@@ -18,14 +18,18 @@ use Rattle.tk_types.specs.declared.run.SayText.TheVariants as texts
 use Rattle.tk_types.specs.CallNames.{text_of}
 use Rattle.tk_types.specs.Codes.{coded, error_text}
 
+-- the error code that a value is: where it is negative and the table has it
+abbrev pub error_of : ℤ → Option Er
+error_of (pos n) = None
+error_of (negsuc n) = coded (negsuc n)
+
 abbrev pub named_value : Option Er → ℤ → List ℕ
 named_value (Some error) value = error_text error
 named_value None value = signed_decimal value
 
 -- a value: the name of the error code where it is negative and the table has it, else its decimal
 unfoldable pub value_text : ℤ → List ℕ
-value_text (pos n) = decimal n
-value_text (negsuc n) = named_value (coded (negsuc n)) (negsuc n)
+value_text value = named_value (error_of value) value
 
 -- a value and the fields behind it
 abbrev pub answer_words : Answer → List (List ℕ)

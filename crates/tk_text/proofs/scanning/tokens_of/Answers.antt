@@ -1,0 +1,16 @@
+-- The words and the spans of all lines.
+use Rattle.std.proofs.Common.{◌+◌, ap, ◌∙◌, map, subst, sym, length}
+use Rattle.tk_text.specs.Words.{words_from}
+use Rattle.tk_text.specs.Tokens.{read_token, SpansRise}
+use Rattle.tk_text.proofs.Options.{ok_map}
+use Rattle.tk_text.proofs.Spans.{first_words, first_rise, all_lines}
+use Rattle.tk_text.proofs.scanning.tokens_of.Goals as goal
+
+pub returns-clause-words : goal.returns-clause-words
+returns-clause-words c =
+    ok_map c.first_tokens.result _ _ c.first_tokens.ensures
+    (λ tokens is. ap (map (read_token c.args.text.now)) is ∙ (first_words c.args.text.now (length c.args.text.now + 1) ∙ ap (words_from 1) (all_lines c.args.text.now)))
+
+pub returns-clause-rise : goal.returns-clause-rise
+returns-clause-rise c =
+    ok_map c.first_tokens.result _ _ c.first_tokens.ensures (λ tokens is. subst (SpansRise 0 (length c.args.text.now)) (sym is) (first_rise c.args.text.now (length c.args.text.now + 1)))
