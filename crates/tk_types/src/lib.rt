@@ -28,7 +28,7 @@ pub use modes::{
     ATTRIBUTE_WORDS, Attributes, FLAG_MODE_WORDS, FlagMode, OPEN_MODE_WORDS, OpenMode,
     SUSPEND_MODE_WORDS, SuspendMode,
 };
-pub use name::Name;
+pub use name::{Name, is_name};
 pub use run::{Act, End, Frame, Mode, SayText};
 pub use script::{
     Arg, Body, BodyKind, Boot, Condition, Device, Interrupt, Kind, Label, Operand, Operation,

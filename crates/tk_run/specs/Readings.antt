@@ -1,0 +1,19 @@
+-- How the input is read as a script. The one place that names how much of the grammar there is so far.
+use Rattle.std.specs.Prelude.{◌≡◌, ℕ, List, Option, Some, None}
+use Rattle.tk_types.specs.declared.script.Script.{Script}
+use Rattle.tk_types.specs.declared.script.Reading.{Reading}
+use Rattle.tk_types.specs.declared.script.Reading.TheVariants as readings
+use Rattle.tk_types.specs.declared.why.Why.TheVariants.{Later}
+use Rattle.tk_model.specs.ScriptReading.{SpellsFirst, reading_first}
+
+abbrev pub read_or_later : Option Script → Reading
+read_or_later (Some script) = readings.Script script
+read_or_later None = readings.Refused 0 Later
+
+-- what a text is read as
+unfoldable pub reading_of : List ℕ → Reading
+reading_of text = read_or_later (reading_first text)
+
+-- a text spells a script
+abbrev pub Spells : List ℕ → Script → Type 0
+Spells text script = SpellsFirst text script

@@ -1,0 +1,6 @@
+//! The program as a whole: from words and the bytes of a source to the bytes of a sink and a status.
+#![tactic(auto)]
+
+mod command;
+
+pub use command::{Command, command_of};
