@@ -9,4 +9,7 @@ pub mod Step
 pub mod Trace
 pub mod LineText
 pub mod Machine
+pub mod NumberWords
+pub mod ScriptText
+pub mod ScriptReading
 pub mod Rows
