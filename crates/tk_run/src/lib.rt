@@ -2,5 +2,7 @@
 #![tactic(auto)]
 
 mod command;
+mod status;
 
 pub use command::{Command, command_of};
+pub use status::Status;

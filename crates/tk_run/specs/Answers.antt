@@ -1,0 +1,34 @@
+-- What holds with each answer of the calls of this crate: of the bytes that a sink took, and of the causes.
+use Rattle.std.specs.Prelude.{◌≡◌, ℕ, List, Option, Some}
+use Rattle.tk_types.specs.declared.script.Script.{Script}
+use Rattle.tk_types.specs.declared.run.Mode.{Mode}
+use Rattle.tk_types.specs.declared.run.End.{End}
+use Rattle.tk_types.specs.declared.run.End.TheVariants as ends
+use Rattle.tk_ports.specs.Streams.{Appends, AppendsFront}
+use Rattle.tk_model.specs.Trace.{Trace, trace}
+use Rattle.tk_model.specs.LineText.{text_of_lines}
+use Rattle.tk_run.specs.declared.command.Command.{Command}
+use Rattle.tk_run.specs.declared.command.Command.TheVariants.{Run}
+use Rattle.tk_run.specs.declared.status.Status.{Status}
+use Rattle.tk_run.specs.declared.status.Status.TheVariants as statuses
+use Rattle.tk_run.specs.Commands.{command_of}
+use Rattle.tk_run.specs.Readings.{Spells}
+use Rattle.tk_run.specs.Outcomes.{Outcome}
+
+-- the status is the outcome's and all its bytes were taken, unless a stream failed or memory ran out
+abbrev pub OutcomeAnswers : Outcome → Option (List ℕ) → Option (List ℕ) → Status → Type 0
+OutcomeAnswers outcome old new statuses.Done = (outcome.status ≡ statuses.Done) × Appends old new outcome.bytes
+OutcomeAnswers outcome old new statuses.Budget = (outcome.status ≡ statuses.Budget) × Appends old new outcome.bytes
+OutcomeAnswers outcome old new (statuses.Refused line why) = (outcome.status ≡ statuses.Refused line why) × Appends old new outcome.bytes
+OutcomeAnswers outcome old new statuses.Usage = (outcome.status ≡ statuses.Usage) × Appends old new outcome.bytes
+OutcomeAnswers outcome old new statuses.ReadFault = new ≡ old
+OutcomeAnswers outcome old new statuses.WriteFault = AppendsFront old new outcome.bytes
+OutcomeAnswers outcome old new statuses.NoMemory = AppendsFront old new outcome.bytes
+
+-- the same of a run that is only written
+abbrev pub RunAnswers : Outcome → Option (List ℕ) → Option (List ℕ) → Status → Type 0
+RunAnswers outcome old new statuses.Done = (outcome.status ≡ statuses.Done) × Appends old new outcome.bytes
+RunAnswers outcome old new statuses.Budget = (outcome.status ≡ statuses.Budget) × Appends old new outcome.bytes
+RunAnswers outcome old new statuses.WriteFault = AppendsFront old new outcome.bytes
+RunAnswers outcome old new statuses.NoMemory = AppendsFront old new outcome.bytes
+RunAnswers outcome old new _ = ⊥
