@@ -28,7 +28,6 @@ ghost use Rattle.tk_model.specs.Choice.{best_of, better};
 use crate::order::move_to_back;
 use std::alloc::{AllocError, Global};
 use std::marker::Model;
-use std::mem;
 use tk_types::{Answer, Phase, Release, Task};
 
 /// The tasks by ID, their orders, the current task, and the simulated memory that is taken.
@@ -324,12 +323,18 @@ impl Base {
         task
     }
 
-    /// Moves out the waits that ended.
-    pub fn take_released(&mut self, alloc: Global) -> Vec<Release>
-        ensures taken { result.items ≡ self.old.released }
-        ensures left { self.new ≡ record self.old { released = [] } }
+    /// The waits that ended, in order.
+    pub fn released(&self) -> &[Release]
+        ensures { result.now ≡ self.now.released }
     {
-        mem::replace(&mut self.released, Vec::new(alloc))
+        self.released.as_slice()
+    }
+
+    /// The waits that ended are over.
+    pub fn clear_released(&mut self)
+        ensures { self.new ≡ record self.old { released = [] } }
+    {
+        self.released.clear();
     }
 }
 

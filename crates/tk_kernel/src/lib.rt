@@ -3,6 +3,9 @@
 
 mod base;
 mod kernel;
+mod machine;
 mod order;
 mod statements;
 mod task_calls;
+
+pub use machine::{Machine, Pace};

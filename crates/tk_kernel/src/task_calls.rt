@@ -34,7 +34,7 @@ pub fn plain(value: i32) -> Answer
 }
 
 /// The answer of a call that is refused.
-fn failed(error: Er) -> Outcome
+pub fn failed(error: Er) -> Outcome
     ensures { result ≡ failed error }
 {
     Outcome::Returned(plain(error.main_code()))

@@ -13,8 +13,6 @@ use Rattle.tk_types.specs.declared.line.Hook.{Hook}
 use Rattle.tk_types.specs.declared.line.Hook.TheVariants as hooks
 use Rattle.tk_types.specs.declared.line.LastLine.{LastLine}
 use Rattle.tk_types.specs.declared.line.LastLine.TheVariants as lasts
-use Rattle.tk_types.specs.declared.run.SayText.{SayText}
-use Rattle.tk_types.specs.declared.run.SayText.TheVariants as texts
 use Rattle.tk_types.specs.CallNames.{text_of}
 use Rattle.tk_types.specs.Codes.{coded, error_text}
 
@@ -49,10 +47,6 @@ hook_words (hooks.Service who call) = codes "svc" ∷ decimal who ∷ text_of ca
 hook_words (hooks.Dispatch task) = codes "dsp" ∷ decimal task ∷ []
 hook_words (hooks.Handler handler number) = codes "int" ∷ handler_text handler ∷ decimal number ∷ []
 
-abbrev pub said_text : SayText → List ℕ
-said_text (texts.Name name) = name
-said_text (texts.Number number) = signed_decimal number
-
 abbrev pub end_words : LastLine → List (List ℕ)
 end_words lasts.Idle = codes "idle" ∷ []
 end_words lasts.Halt = codes "halt" ∷ []
@@ -70,7 +64,8 @@ words_of (lines.Tick n time) = decimal n ∷ codes "K" ∷ decimal time ∷ []
 words_of (lines.Started n handler number) = decimal n ∷ codes "I" ∷ handler_text handler ∷ decimal number ∷ []
 words_of (lines.Ending n device request ending) = decimal n ∷ codes "J" ∷ decimal device ∷ decimal request ∷ ending_words ending
 words_of (lines.Hook n hook) = decimal n ∷ codes "O" ∷ hook_words hook
-words_of (lines.Said n who text) = decimal n ∷ codes "S" ∷ decimal who ∷ said_text text ∷ []
+words_of (lines.SaidName n who name) = decimal n ∷ codes "S" ∷ decimal who ∷ name ∷ []
+words_of (lines.SaidNumber n who number) = decimal n ∷ codes "S" ∷ decimal who ∷ signed_decimal number ∷ []
 words_of (lines.End n end) = decimal n ∷ codes "END" ∷ end_words end
 
 -- words behind others, each with its space

@@ -1,6 +1,7 @@
 -- A step of the machine, and the lines that it writes. The step is a statement of the current task. Its line
 -- comes first, then a line for each wait that it ended, then that of the dispatch.
 use Rattle.std.specs.Prelude.{ℕ, zero, suc, ◌+◌, Bool, true, false, ◌==◌, if◌then◌else◌, ℤ, pos, negsuc, List, [], ◌∷◌, ◌++◌, Option, Some, None, flat_map, slice_set, slice_index, unwrap_or, option_to_list, option_map}
+use Rattle.std.specs.Ordering.{int_eq}
 use Rattle.tk_types.specs.declared.script.Script.{Script}
 use Rattle.tk_types.specs.declared.answer.Answer.{Answer}
 use Rattle.tk_types.specs.declared.answer.Outcome.{Outcome}
@@ -14,6 +15,8 @@ use Rattle.tk_types.specs.declared.calls.TaskCall.TheVariants.{CreTsk, StaTsk, E
 use Rattle.tk_types.specs.declared.call_name.CallName.{CallName}
 use Rattle.tk_types.specs.declared.run.Act.{Act}
 use Rattle.tk_types.specs.declared.run.Act.TheVariants as acts
+use Rattle.tk_types.specs.declared.run.SayText.{SayText}
+use Rattle.tk_types.specs.declared.run.SayText.TheVariants as texts
 use Rattle.tk_types.specs.declared.run.End.{End}
 use Rattle.tk_types.specs.declared.run.End.TheVariants as ends
 use Rattle.tk_types.specs.declared.task.Release.{Release}
@@ -22,7 +25,7 @@ use Rattle.tk_types.specs.declared.line.Line.TheVariants as lines
 use Rattle.tk_types.specs.declared.line.LastLine.{LastLine}
 use Rattle.tk_types.specs.declared.line.LastLine.TheVariants as lasts
 use Rattle.tk_types.specs.Calls.{name_of}
-use Rattle.tk_model.specs.Checks.{natural, failed}
+use Rattle.tk_model.specs.Checks.{natural, failed, within}
 use Rattle.tk_model.specs.Base.{Base, chosen, dispatch}
 use Rattle.tk_model.specs.TaskCalls.{TaskDone, task_call}
 use Rattle.tk_model.specs.Statements.{Fetched, fetch, start_frame, call_before}
@@ -45,11 +48,21 @@ base_call b t (calls.Task call) = task_call b (whos.Task t) call
 -- the other families aren't built yet: a script that has one is refused before it runs
 base_call b t _ = record { base = b; outcome = failed er.NoSpt }
 
--- a created task gets its body, and a started one a frame
+-- a created task gets its body; an error is no task
+abbrev pub with_body : State → ℤ → ℕ → State
+with_body st task body = if within 1 255 task then record st { bodies = slice_set st.bodies (natural task) body } else st
+
+-- a started task is at the start of its body
+abbrev pub with_start : State → ℤ → ℤ → State
+with_start st task code =
+    if within 0 255 task
+    then record st { frames = slice_set st.frames (natural task) (start_frame (slice_index st.bodies (natural task)) code (pos 0)) }
+    else st
+
 abbrev pub begun : State → TaskCall → ℤ → State
-begun st (CreTsk attributes body priority stack) (pos (suc id)) = record st { bodies = slice_set st.bodies (suc id) body }
-begun st (StaTsk task code) (pos zero) = record st { frames = slice_set st.frames (natural task) (start_frame (slice_index st.bodies (natural task)) code (pos 0)) }
-begun st _ _ = st
+begun st (CreTsk attributes body priority stack) value = with_body st value body
+begun st (StaTsk task code) value = if int_eq value (pos 0) then with_start st task code else st
+begun st _ value = st
 
 abbrev pub noted : State → Call → Outcome → State
 noted st (calls.Task call) (Returned result) = begun st call result.value
@@ -70,10 +83,15 @@ called n st t call = after_call n st t call (base_call st.base t call)
 
 -- ---- a statement
 
+-- the line of what a body says
+abbrev pub said_line : ℕ → ℕ → SayText → Line
+said_line n who (texts.Name name) = lines.SaidName n who name
+said_line n who (texts.Number number) = lines.SaidNumber n who number
+
 -- what a statement of a task asked for; the end of a task's body is the call that ends the task
 abbrev pub acted : ℕ → State → ℕ → Act → Event
 acted n st t (acts.Call call) = called n st t call
-acted n st t (acts.Say text) = record { state = st; lines = lines.Said n t text ∷ [] }
+acted n st t (acts.Say text) = record { state = st; lines = said_line n t text ∷ [] }
 acted n st t acts.Fell = called n st t (calls.Task ExtTsk)
 acted n st t _ = record { state = st; lines = [] }
 
@@ -97,16 +115,17 @@ with_releases script n st = record {
   lines = flat_map (release_lines script n st) st.base.released;
 }
 
--- dispatching, with a line where the chosen task isn't the current one
-abbrev pub turned : ℕ → State → ℕ → Event
-turned n st t = if option_is t st.base.cur then record { state = st; lines = [] } else record { state = record st { base = dispatch st.base }; lines = lines.Dispatch n t ∷ [] }
-  where
-    option_is : ℕ → Option ℕ → Bool
-    option_is t None = false
-    option_is t (Some other) = other == t
+abbrev pub is_current : ℕ → Option ℕ → Bool
+is_current t None = false
+is_current t (Some other) = other == t
 
+abbrev pub turned : Bool → ℕ → State → Event
+turned true n st = record { state = st; lines = [] }
+turned false n st = record { state = record st { base = dispatch st.base }; lines = lines.Dispatch n (chosen st.base) ∷ [] }
+
+-- dispatching, with a line where the chosen task isn't the current one
 unfoldable pub dispatched : ℕ → State → Event
-dispatched n st = turned n st (chosen st.base)
+dispatched n st = turned (is_current (chosen st.base) st.base.cur) n st
 
 -- the waits that ended, and the dispatch
 abbrev pub followed : Script → ℕ → State → Event
@@ -128,19 +147,26 @@ pub record Stepped : Type 0 where
 abbrev pub is_quiet : State → Bool
 is_quiet st = chosen st.base == 0
 
+abbrev pub counted_at : Bool → ℕ → Event → Stepped
+counted_at true n event = record { state = record event.state { steps = n }; lines = event.lines ++ lines.End n lasts.Budget ∷ []; over = Some ends.Budget }
+counted_at false n event = record { state = record event.state { steps = n }; lines = event.lines; over = None }
+
 -- the step is counted, and the one whose number is the budget is the last
 abbrev pub counted : ℕ → ℕ → Event → Stepped
-counted budget n event =
-    if n == budget
-    then record { state = record event.state { steps = n }; lines = event.lines ++ lines.End n lasts.Budget ∷ []; over = Some ends.Budget }
-    else record { state = record event.state { steps = n }; lines = event.lines; over = None }
+counted budget n event = counted_at (n == budget) n event
 
 -- the run ends idle, and no step is done
 abbrev pub idle : State → Stepped
 idle st = record { state = st; lines = lines.End st.steps lasts.Idle ∷ []; over = Some ends.Idle }
 
+-- the statement of the current task, with all that follows it
+abbrev pub worked : Script → ℕ → State → Event
+worked script n st = settled script n (ran script n st (unwrap_or st.base.cur 0))
+
+abbrev pub stepped_if : Bool → Script → ℕ → State → Stepped
+stepped_if true script budget st = idle st
+stepped_if false script budget st = counted budget (st.steps + 1) (worked script (st.steps + 1) st)
+
 -- a step: the end where the machine is quiet, and else a statement of the current task
 unfoldable pub step : Script → ℕ → State → Stepped
-step script budget st =
-    if is_quiet st then idle st
-    else counted budget (st.steps + 1) (settled script (st.steps + 1) (ran script (st.steps + 1) st (unwrap_or st.base.cur 0)))
+step script budget st = stepped_if (is_quiet st) script budget st

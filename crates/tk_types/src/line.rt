@@ -2,7 +2,7 @@
 
 use crate::answer::Answer;
 use crate::call_name::CallName;
-use crate::run::SayText;
+use crate::name::Name;
 
 /// A line of the trace. `step` is the number of the step that it belongs to. A task is its ID; `who` is a
 /// task's ID, or 0 for a handler.
@@ -56,11 +56,17 @@ pub enum Line {
         step: u32,
         hook: Hook,
     },
-    /// `S`: what `say` or `show` printed.
-    Said {
+    /// `S`: what `say` printed.
+    SaidName {
         step: u32,
         who: u8,
-        text: SayText,
+        name: Name,
+    },
+    /// `S`: what `show` printed.
+    SaidNumber {
+        step: u32,
+        who: u8,
+        number: i32,
     },
     /// `END`: the last line; `step` is the number of steps done.
     End {

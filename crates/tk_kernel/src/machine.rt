@@ -1,0 +1,204 @@
+//! The machine that runs a script.
+
+ghost use Rattle.std.specs.Prelude.{◌≡◌, ◌<◌, ◌≤◌, ◌+◌, ◌++◌, IfOk, IsErr, OnErr, OnOk, Some, [], true};
+ghost use Rattle.std.specs.Bool.{◌==◌};
+ghost use Rattle.tk_model.specs.Base.{chosen};
+ghost use Rattle.tk_model.specs.Machine.{Machine as MachineView, after_step, new_machine};
+ghost use Rattle.tk_model.specs.Statements.{IsRunnable};
+ghost use Rattle.tk_model.specs.Step.{counted_at, followed, idle, step};
+ghost use Rattle.tk_kernel.specs.Pace.{pace_of};
+
+use crate::kernel::Kernel;
+use std::alloc::{AllocError, Global};
+use std::marker::Model;
+use std::mem;
+use tk_types::{End, LastLine, Line, Mode, OutOfMemory, Script};
+
+/// What a call of `step` came to.
+#[derive(Clone, Copy, Debug, PartialEq, Eq)]
+pub enum Pace {
+    /// The run goes on.
+    Went,
+    /// The run is over.
+    Over(End),
+}
+
+/// A machine that runs a script step by step, and keeps the lines of the trace until they are taken.
+#[derive(Drop)]
+pub struct Machine {
+    alloc: Global,
+    script: Script,
+    mode: Mode,
+    budget: u32,
+    kernel: Kernel,
+    over: Option<End>,
+    failed: bool,
+    lines: Vec<Line>,
+}
+
+impl Model for Machine {
+    ghost use Rattle.tk_model.specs.Machine.{Machine as MachineView};
+    ghost use Rattle.tk_kernel.specs.Budgets.{IsGoing};
+
+    ghost Value = { MachineView };
+
+    ghost view = { λ m. record { script = m.script; mode = m.mode; budget = m.budget; state = m.kernel; over = m.over; failed = m.failed; lines = m.lines.items } };
+
+    ghost invariant = { λ m. IsGoing m.script m.budget m.kernel m.over m.failed };
+}
+
+/// The waits that ended, with their lines, and the dispatch.
+fn follow(
+    kernel: &mut Kernel,
+    script: &Script,
+    step: u32,
+    lines: &mut Vec<Line>,
+) -> Result<(), AllocError>
+    ensures state { OnOk result (kernel.new ≡ (followed script.now step kernel.old).state) }
+    ensures lines { OnOk result (lines.new.items ≡ lines.old.items ++ (followed script.now step kernel.old).lines) }
+{
+    kernel.follow_releases(script, step, lines)?;
+    kernel.dispatch(step, lines)
+}
+
+/// Ends the run idle, where no task is ready.
+fn end_idle(kernel: &Kernel, lines: &mut Vec<Line>) -> Result<(), AllocError>
+    ensures { OnOk result (lines.new.items ≡ lines.old.items ++ (idle kernel.now).lines) }
+{
+    lines.push(Line::End {
+        step: kernel.steps(),
+        end: LastLine::Idle,
+    })?;
+    Ok(())
+}
+
+/// Counts a step, and ends the run at its budget.
+fn count(
+    kernel: &mut Kernel,
+    budget: u32,
+    step: u32,
+    lines: &mut Vec<Line>,
+) -> Result<Option<End>, AllocError>
+    ensures state { OnOk result (kernel.new ≡ record kernel.old { steps = step }) }
+    ensures ending { IfOk result (λ over. over ≡ (counted_at (step == budget) step (record { state = kernel.old; lines = lines.old.items })).over) }
+    ensures lines { OnOk result (lines.new.items ≡ (counted_at (step == budget) step (record { state = kernel.old; lines = lines.old.items })).lines) }
+{
+    kernel.set_steps(step);
+    if step == budget {
+        lines.push(Line::End {
+            step,
+            end: LastLine::Budget,
+        })?;
+        return Ok(Some(End::Budget));
+    }
+    Ok(None)
+}
+
+/// A step of a run that goes on.
+#[tactic(auto, unfolding(tk_model::specs::Step::step))]
+fn advance(
+    kernel: &mut Kernel,
+    script: &Script,
+    budget: u32,
+    lines: &mut Vec<Line>,
+) -> Result<Option<End>, AllocError>
+    requires runnable { IsRunnable script.now }
+    requires limit { budget ≤ 1000000 }
+    requires left { kernel.old.steps < budget }
+    requires turned { kernel.old.base.cur ≡ Some (chosen kernel.old.base) }
+    ensures state { OnOk result (kernel.new ≡ (step script.now budget kernel.old).state) }
+    ensures ending { IfOk result (λ over. over ≡ (step script.now budget kernel.old).over) }
+    ensures lines { OnOk result (lines.new.items ≡ lines.old.items ++ (step script.now budget kernel.old).lines) }
+{
+    let task = kernel.running();
+    if task == 0 {
+        end_idle(kernel, lines)?;
+        return Ok(Some(End::Idle));
+    }
+    let step = kernel.steps() + 1;
+    kernel.run(script, step, task, lines)?;
+    follow(kernel, script, step, lines)?;
+    count(kernel, budget, step, lines)
+}
+
+impl Machine {
+    /// A machine at the start of a script, which keeps the line of its first dispatch. The script is one that
+    /// some text spells, and the budget of steps is from 1 to 1,000,000.
+    #[tactic(auto, unfolding(tk_model::specs::Trace::start), using(tk_model::proofs::Steps::dispatched_turned))]
+    pub fn new(
+        alloc: Global,
+        script: Script,
+        mode: Mode,
+        budget: u32,
+    ) -> Result<Machine, OutOfMemory>
+        requires runnable { IsRunnable script }
+        requires low { 1 ≤ budget }
+        requires high { budget ≤ 1000000 }
+        ensures { IfOk result (λ machine. machine ≡ new_machine script mode budget) }
+    {
+        let mut kernel = Kernel::new(alloc, &script)?;
+        let mut lines = Vec::new(alloc);
+        kernel.dispatch(0, &mut lines)?;
+        Ok(Machine {
+            alloc,
+            script,
+            mode,
+            budget,
+            kernel,
+            over: None,
+            failed: false,
+            lines,
+        })
+    }
+
+    /// Does one step and keeps its lines, or answers again how the run ended. Once the host's memory ran out
+    /// in a call, each later call answers so too.
+    pub fn step(&mut self) -> Result<Pace, OutOfMemory>
+        ensures stepped { OnOk result (self.new ≡ after_step self.old) }
+        ensures pace { IfOk result (λ pace. pace ≡ pace_of self.new.over) }
+        ensures failing { OnErr result (self.new.failed ≡ true) }
+        ensures fails_on { self.old.failed ≡ true → IsErr result }
+    {
+        if self.failed {
+            return Err(OutOfMemory);
+        }
+        if let Some(end) = self.over {
+            return Ok(Pace::Over(end));
+        }
+        match advance(&mut self.kernel, &self.script, self.budget, &mut self.lines) {
+            Ok(over) => {
+                self.over = over;
+                Ok(pace_of(over))
+            }
+            Err(_) => {
+                self.failed = true;
+                Err(OutOfMemory)
+            }
+        }
+    }
+
+    /// How many steps are done.
+    pub fn steps_done(&self) -> u32
+        ensures { result ≡ self.now.state.steps }
+    {
+        self.kernel.steps()
+    }
+
+    /// Moves out the lines that weren't taken yet. It takes no memory.
+    pub fn take_lines(&mut self) -> Vec<Line>
+        ensures taken { result.items ≡ self.old.lines }
+        ensures left { self.new ≡ record self.old { lines = [] } }
+    {
+        mem::replace(&mut self.lines, Vec::new(self.alloc))
+    }
+}
+
+/// What a call of `step` answers.
+fn pace_of(over: Option<End>) -> Pace
+    ensures { result ≡ pace_of over }
+{
+    match over {
+        None => Pace::Went,
+        Some(end) => Pace::Over(end),
+    }
+}
