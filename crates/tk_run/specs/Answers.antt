@@ -1,5 +1,5 @@
 -- What holds with each answer of the calls of this crate: of the bytes that a sink took, and of the causes.
-use Rattle.std.specs.Prelude.{◌≡◌, ℕ, List, Option, Some}
+use Rattle.std.specs.Prelude.{◌≡◌, ◌⊎◌, ℕ, List, Option, Some}
 use Rattle.tk_types.specs.declared.script.Script.{Script}
 use Rattle.tk_types.specs.declared.run.Mode.{Mode}
 use Rattle.tk_types.specs.declared.run.End.{End}
@@ -32,3 +32,8 @@ RunAnswers outcome old new statuses.Budget = (outcome.status ≡ statuses.Budget
 RunAnswers outcome old new statuses.WriteFault = AppendsFront old new outcome.bytes
 RunAnswers outcome old new statuses.NoMemory = AppendsFront old new outcome.bytes
 RunAnswers outcome old new _ = ⊥
+
+-- no stream failed and no fault was counted: the status is this one, unless memory ran out
+pub record IsCertain (status : Status) (faults faults_now : ℕ) (answer : Status) : Type 0 where
+  pub answer_is : (answer ≡ status) ⊎ (answer ≡ statuses.NoMemory)
+  pub no_fault : faults_now ≡ faults

@@ -2,7 +2,10 @@
 #![tactic(auto)]
 
 mod command;
+mod run;
 mod status;
+mod turn;
 
 pub use command::{Command, command_of};
+pub use run::run_script;
 pub use status::Status;

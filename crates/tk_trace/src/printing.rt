@@ -3,11 +3,11 @@
 ghost use Rattle.std.specs.Prelude.{◌≡◌, [], ◌∷◌, ◌++◌, length, map, take, codes, decimal, OnOk, OnErr};
 ghost use Rattle.std.specs.Fmt.{signed_decimal};
 ghost use Rattle.tk_types.specs.CallNames.{text_of};
-ghost use Rattle.tk_model.specs.LineText.{error_of, value_text, answer_words, ending_words, handler_text, hook_words, said_text, end_words, spaced, text_of_line, text_of_lines};
+ghost use Rattle.tk_model.specs.LineText.{error_of, value_text, answer_words, ending_words, handler_text, hook_words, end_words, spaced, text_of_line, text_of_lines};
 
 use itoa::Buffer;
 use tk_types::{
-    Answer, CallName, Er, HandlerKind, Hook, LastLine, Line, LineEnding, OutOfMemory, SayText,
+    Answer, CallName, Er, HandlerKind, Hook, LastLine, Line, LineEnding, OutOfMemory,
 };
 
 /// Puts bytes behind the text.
@@ -174,17 +174,6 @@ fn put_hook(hook: Hook, out: &mut Vec<u8>) -> Result<(), OutOfMemory>
     }
 }
 
-/// Puts what was said behind the text.
-fn put_said(text: SayText, out: &mut Vec<u8>) -> Result<(), OutOfMemory>
-    ensures grown { OnOk result (out.new.items ≡ out.old.items ++ said_text text) }
-    ensures front { OnErr result (take (length out.old.items) out.new.items ≡ out.old.items) }
-{
-    match text {
-        SayText::Name(name) => put(name.as_bytes(), out),
-        SayText::Number(number) => put_signed(number, out),
-    }
-}
-
 /// Puts how a trace ends behind the text, a space before each word.
 fn put_end(end: LastLine, out: &mut Vec<u8>) -> Result<(), OutOfMemory>
     ensures grown { OnOk result (out.new.items ≡ out.old.items ++ spaced (end_words end)) }
@@ -271,11 +260,17 @@ fn put_line(line: &Line, out: &mut Vec<u8>) -> Result<(), OutOfMemory>
             put_step(step, b" O", out)?;
             put_hook(hook, out)
         }
-        Line::Said { step, who, text } => {
+        Line::SaidName { step, who, name } => {
             put_step(step, b" S ", out)?;
             put_natural(u64::from(who), out)?;
             put(b" ", out)?;
-            put_said(text, out)
+            put(name.as_bytes(), out)
+        }
+        Line::SaidNumber { step, who, number } => {
+            put_step(step, b" S ", out)?;
+            put_natural(u64::from(who), out)?;
+            put(b" ", out)?;
+            put_signed(number, out)
         }
         Line::End { step, end } => {
             put_step(step, b" END", out)?;
