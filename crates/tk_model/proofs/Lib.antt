@@ -1,2 +1,5 @@
 pub mod Choice
 pub mod Steps
+pub mod Choices
+pub mod NumberLaws
+pub mod FirstTakes

@@ -1,6 +1,6 @@
 -- How a text is read as a script, in the first stage: the printed form alone, and few of the statements.
 -- A text is read without looking at each of its bytes; then what was read is printed, and the text has to be that.
-use Rattle.std.specs.Prelude.{◌≡◌, ◌⊎◌, ℕ, ℤ, negsuc, ◌+◌, ◌≤◌, Bool, nat_lt, nat_le, ◌==◌, ◌&&◌, ◌||◌, if◌then◌else◌, List, [], ◌∷◌, ◌++◌, map, length, Option, Some, None, codes, bytes_eq, position, option_map}
+use Rattle.std.specs.Prelude.{◌≡◌, ◌⊎◌, ℕ, ℤ, negsuc, ◌+◌, ◌≤◌, Bool, nat_lt, nat_le, ◌==◌, ◌&&◌, ◌||◌, if◌then◌else◌, List, [], ◌∷◌, ◌++◌, map, length, Option, Some, None, codes, bytes_eq, position, option_map, option_to_list}
 use Rattle.std.specs.List.{slice_split, AllByRecursion}
 use Rattle.tk_types.specs.Names.{name_at_most}
 use Rattle.tk_types.specs.CallNames.{form_of}
@@ -9,6 +9,9 @@ use Rattle.tk_types.specs.declared.call_name.ArgumentKind.TheVariants as kinds
 use Rattle.tk_types.specs.declared.call_name.CallName.{CallName}
 use Rattle.tk_types.specs.declared.call_name.CallName.TheVariants.{TkCreTsk, TkStaTsk, TkSlpTsk, TkWupTsk, TkExtTsk}
 use Rattle.tk_types.specs.declared.script.Script.{Script}
+use Rattle.tk_types.specs.declared.script.Reading.{Reading}
+use Rattle.tk_types.specs.declared.script.Reading.TheVariants as readings
+use Rattle.tk_types.specs.declared.why.Why.TheVariants.{Later}
 use Rattle.tk_types.specs.declared.script.Boot.{Boot}
 use Rattle.tk_types.specs.declared.script.Body.{Body}
 use Rattle.tk_types.specs.declared.script.BodyKind.TheVariants.{Task}
@@ -136,11 +139,15 @@ outside [] done = None
 outside (word ∷ []) done = Some (done, None)
 outside (word ∷ name ∷ words) done = option_map (λ (name : List ℕ). (done, Some (new_body name))) (name_at name)
 
+-- the end of a body
+abbrev pub closed : List Body → Body → Option Reached
+closed done body = Some (done ++ body ∷ [], None)
+
 -- a line inside a body
 unfoldable pub inside : List (List ℕ) → List (List ℕ) → List Body → Body → Option Reached
 inside names [] done body = None
 inside names (first ∷ words) done body =
-    if bytes_eq first (codes "end") then Some (done ++ body ∷ [], None)
+    if bytes_eq first (codes "end") then closed done body
     else option_map (λ (stmt : Stmt). (done, Some (with_stmt body stmt))) (stmt_at names first words)
 
 unfoldable pub line_at : List (List ℕ) → List ℕ → List Body → Option Body → Option Reached
@@ -163,14 +170,10 @@ begun [] = None
 begun (word ∷ []) = None
 begun (word ∷ name ∷ words) = if bytes_eq word (codes "body") then name_at name else None
 
-abbrev pub with_name : Option (List ℕ) → List (List ℕ) → List (List ℕ)
-with_name None names = names
-with_name (Some name) names = name ∷ names
-
 -- the names of the bodies of lines
 unfoldable pub body_names : List (List ℕ) → List (List ℕ)
 body_names [] = []
-body_names (line ∷ lines) = with_name (begun (split_words line)) (body_names lines)
+body_names (line ∷ lines) = option_to_list (begun (split_words line)) ++ body_names lines
 
 abbrev pub priority_of : Option ℕ → Option ℕ
 priority_of None = None
@@ -179,10 +182,13 @@ priority_of (Some number) = if nat_le 1 number && nat_le number 140 then Some nu
 unfoldable pub priority_at : List ℕ → Option ℕ
 priority_at word = priority_of (natural_at word)
 
+abbrev pub boot_of : Option ℕ → Option ℕ → Option Boot
+boot_of None priority = None
+boot_of (Some body) priority = option_map (λ (number : ℕ). record { body = body; priority = number }) priority
+
 -- the boot line
 unfoldable pub boot_at : List (List ℕ) → List (List ℕ) → Option Boot
-boot_at names (word ∷ name ∷ priority ∷ words) =
-    and_then (body_at names name) (λ body. option_map (λ number. record { body = body; priority = number }) (priority_at priority))
+boot_at names (word ∷ name ∷ priority ∷ words) = boot_of (body_at names name) (priority_at priority)
 boot_at names _ = None
 
 -- whether bodies have the numbers that their names have
@@ -216,3 +222,8 @@ compared text script = if is_form (printed script) text then Some script else No
 unfoldable pub reading_first : List ℕ → Option Script
 reading_first text =
     if nat_le (length text) 1048576 then and_then (script_at (split_lines text)) (compared text) else None
+
+-- what is answered: the script, or a refusal at no line
+abbrev pub answer_first : Option Script → Reading
+answer_first None = readings.Refused 0 Later
+answer_first (Some script) = readings.Script script

@@ -3,7 +3,7 @@
 use Rattle.std.specs.Prelude.{◌≡◌, ◌≢◌, ◌⊎◌, ℕ, ℤ, ◌+◌, ◌-◌, ◌/◌, ◌%◌, ◌^◌, ◌<◌, ◌≤◌, Bool, true, not, ◌==◌, ◌&&◌, if◌then◌else◌, List, [], ◌∷◌, ◌++◌, map, length, take, drop, Option, Some, None, IfSome, codes, bytes_eq, decimal, slice_get, option_map, flat_map, FitsSigned}
 use Rattle.std.specs.Fmt.{signed_decimal}
 use Rattle.std.specs.Int.{w32}
-use Rattle.std.specs.List.{list_any, join_with_byte, AllByRecursion}
+use Rattle.std.specs.List.{list_any, AllByRecursion}
 use Rattle.tk_types.specs.Names.{name_at_most}
 use Rattle.tk_types.specs.CallNames.{text_of, form_of}
 use Rattle.tk_types.specs.declared.modes.TheConstants.{ATTRIBUTE_WORDS, FLAG_MODE_WORDS, OPEN_MODE_WORDS, SUSPEND_MODE_WORDS}
@@ -48,9 +48,19 @@ unfoldable pub chosen : List (List ℕ) → ℕ → List (List ℕ)
 chosen [] bits = []
 chosen (word ∷ table) bits = if bits % 2 == 1 then word ∷ chosen table (bits / 2) else chosen table (bits / 2)
 
+-- a bar before each word
+unfoldable pub barred : List (List ℕ) → List ℕ
+barred [] = []
+barred (word ∷ words) = 124 ∷ (word ++ barred words)
+
+-- the words with one bar between
+unfoldable pub bar_joined : List (List ℕ) → List ℕ
+bar_joined [] = []
+bar_joined (word ∷ words) = word ++ barred words
+
 -- a list: its words with a bar between
 unfoldable pub list_word : List (List ℕ) → ℕ → List ℕ
-list_word table bits = if bits == 0 then dash else join_with_byte 124 (chosen table bits)
+list_word table bits = if bits == 0 then dash else bar_joined (chosen table bits)
 
 -- the table of the words of a kind of list
 unfoldable pub table_of : ArgumentKind → List (List ℕ)

@@ -1,0 +1,4 @@
+pub mod LineLoops
+pub mod Appends
+pub mod Taken
+pub mod Items
