@@ -1,5 +1,5 @@
 -- What holds with each answer of the calls of this crate: of the bytes that a sink took, and of the causes.
-use Rattle.std.specs.Prelude.{◌≡◌, ◌⊎◌, ℕ, List, Option, Some}
+use Rattle.std.specs.Prelude.{◌≡◌, ◌⊎◌, ℕ, List, Option, Some, None}
 use Rattle.tk_types.specs.declared.script.Script.{Script}
 use Rattle.tk_types.specs.declared.run.Mode.{Mode}
 use Rattle.tk_types.specs.declared.run.End.{End}
@@ -37,3 +37,23 @@ RunAnswers outcome old new _ = ⊥
 pub record IsCertain (status : Status) (faults faults_now : ℕ) (answer : Status) : Type 0 where
   pub answer_is : (answer ≡ status) ⊎ (answer ≡ statuses.NoMemory)
   pub no_fault : faults_now ≡ faults
+
+-- the input spells a script, and the sink took the text of its trace, whose end is one of these
+abbrev pub WritesTrace : Mode → ℕ → List ℕ → Option (List ℕ) → Option (List ℕ) → (End → Type 0) → Type 0
+WritesTrace mode budget input old new IsEnd =
+    (script : Script) × Spells input script × IsEnd (trace script mode budget).end × Appends old new (text_of_lines (trace script mode budget).lines)
+
+abbrev pub IsDone : End → Type 0
+IsDone end = (end ≡ ends.Idle) ⊎ (end ≡ ends.Halt)
+
+-- what stands behind `Done` and `Budget`, said by what a text spells and not by how it is read
+abbrev pub HeadlineAnswers : Option Command → List ℕ → Option (List ℕ) → Option (List ℕ) → Status → Type 0
+HeadlineAnswers (Some (Run mode budget)) input old new statuses.Done = WritesTrace mode budget input old new IsDone
+HeadlineAnswers (Some (Run mode budget)) input old new statuses.Budget = WritesTrace mode budget input old new (λ end. end ≡ ends.Budget)
+HeadlineAnswers None input old new statuses.Done = ⊥
+HeadlineAnswers None input old new statuses.Budget = ⊥
+HeadlineAnswers _ input old new _ = Unit {0}
+
+-- words that are no command are answered so, and nothing is read
+abbrev pub IsUsage : Status → Type 0
+IsUsage answer = (answer ≡ statuses.Usage) ⊎ (answer ≡ statuses.WriteFault)

@@ -44,19 +44,22 @@ trace_outcome run = record { status = status_of_end run.end; bytes = text_of_lin
 unfoldable pub refusal_text : ℕ → Why → List ℕ
 refusal_text line why = codes "refused " ++ decimal line ++ codes " " ++ why_text why ++ codes "\n"
 
+abbrev pub refusal_outcome : ℕ → Why → Outcome
+refusal_outcome line why = record { status = statuses.Refused line why; bytes = refusal_text line why }
+
 -- the run of what was read, or its refusal
 abbrev pub reading_outcome : Mode → ℕ → Reading → Outcome
 reading_outcome mode budget (readings.Script script) = trace_outcome (trace script mode budget)
-reading_outcome mode budget (readings.Refused line why) = record { status = statuses.Refused line why; bytes = refusal_text line why }
+reading_outcome mode budget (readings.Refused line why) = refusal_outcome line why
 
 unfoldable pub run_outcome : Mode → ℕ → List ℕ → Outcome
 run_outcome mode budget input = reading_outcome mode budget (reading_of input)
 
-abbrev pub usage_text : List ℕ
-usage_text = codes "usage\n"
+abbrev pub usage_outcome : Outcome
+usage_outcome = record { status = statuses.Usage; bytes = codes "usage\n" }
 
 abbrev pub command_outcome : Option Command → List ℕ → Outcome
-command_outcome None input = record { status = statuses.Usage; bytes = usage_text }
+command_outcome None input = usage_outcome
 command_outcome (Some (Run mode budget)) input = run_outcome mode budget input
 
 unfoldable pub outcome_of : List (List ℕ) → List ℕ → Outcome

@@ -2,6 +2,7 @@
 #![tactic(auto)]
 
 mod command;
+mod refusal;
 mod run;
 mod status;
 mod turn;
