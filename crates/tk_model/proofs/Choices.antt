@@ -1,7 +1,8 @@
 -- Choices between values.
-use Rattle.std.proofs.Common.{◌≡◌, Bool, true, false, cond, ◌&&◌, Option, Some, None, Result, Ok, Err, refl}
+use Rattle.std.proofs.Common.{Bool, Err, None, Ok, Option, Result, Some, arith, cond, eqb, false, not, refl, suc, sym, true, zero, ℕ, ◌&&◌, ◌||◌, ◌≡◌, ◌≤◌}
 use Rattle.std.specs.Result.{IfOk}
 use Rattle.std.specs.Bool.{Decides}
+use Rattle.std.proofs.lemmas.Bool.Decides.{nat_tests}
 use Rattle.std.specs.Option.{option_map}
 use Rattle.tk_model.specs.ScriptReading.{and_then}
 
@@ -51,3 +52,14 @@ same_value x y e = cc
 pub chosen_some : {A : Type 0} (b : Bool) (read : Option A) (y : A) → cond b read None ≡ Some y → (b ≡ true) × (read ≡ Some y)
 chosen_some true read y e = (refl, e)
 chosen_some false read y e = absurd (cc)
+
+pub neither : (a b : Bool) → (a || b) ≡ false → (a ≡ false) × (b ≡ false)
+neither true b e = absurd (cc)
+neither false b e = (refl, e)
+
+pub is_not : (b : Bool) → not b ≡ true → b ≡ false
+is_not true e = sym e
+is_not false e = refl
+
+pub not_zero : (n : ℕ) → 1 ≤ n → eqb n 0 ≡ false
+not_zero n low = grind (arith, nat_tests)

@@ -3,3 +3,5 @@ pub mod Steps
 pub mod Choices
 pub mod NumberLaws
 pub mod FirstTakes
+pub mod Splits
+pub mod FirstAgain
