@@ -9,13 +9,13 @@ use Rattle.tk_types.specs.declared.run.Mode.{Mode}
 use Rattle.tk_types.specs.declared.run.End.{End}
 use Rattle.tk_types.specs.declared.run.End.TheVariants as ends
 use Rattle.tk_model.specs.Statements.{IsRunnable}
-use Rattle.tk_model.specs.ScriptReading.{reading_first}
+use Rattle.tk_model.specs.ScriptReading.{answer_first, reading_first}
 use Rattle.tk_model.specs.Trace.{Trace, trace}
 use Rattle.tk_model.proofs.FirstTakes.{reading_takes}
 use Rattle.tk_run.specs.declared.command.Command.TheVariants.{Run}
 use Rattle.tk_run.specs.declared.status.Status.{Status}
 use Rattle.tk_run.specs.declared.status.Status.TheVariants as statuses
-use Rattle.tk_run.specs.Readings.{Spells, IsRunnableReading, script_or_later, reading_of}
+use Rattle.tk_run.specs.Readings.{Spells, IsRunnableReading, reading_of}
 use Rattle.tk_run.specs.Outcomes.{status_of_end, reading_outcome, run_outcome}
 use Rattle.tk_run.specs.Answers.{OutcomeAnswers, HeadlineAnswers, IsDone}
 
@@ -28,14 +28,14 @@ unread_long text long = rw (lt-leb (length text) 1048576 long) refl
 -- a text and its front up to one byte past the limit are read alike
 pub front_decides : (text input : List ℕ) → text ≡ take (1048576 + 1) input → (length input ≤ 1048576) ⊎ (1048576 < length input) → reading_of text ≡ reading_of input
 unfolding reading_of
-front_decides text input is (inl short) = ap (λ (l : List ℕ). script_or_later (reading_first l)) (is ∙ take_all (1048576 + 1) input (omega arith))
+front_decides text input is (inl short) = ap (λ (l : List ℕ). answer_first (reading_first l)) (is ∙ take_all (1048576 + 1) input (omega arith))
 front_decides text input is (inr long) =
     let size : length text ≡ 1048576 + 1 = ap length is ∙ length-take-le (1048576 + 1) input (omega arith) in
-    ap script_or_later (unread_long text (omega arith) ∙ sym (unread_long input long))
+    ap answer_first (unread_long text (omega arith) ∙ sym (unread_long input long))
 
 -- ---- what is read is spelled
 
-script_was_first : (read : Option Script) (script : Script) → script_or_later read ≡ readings.Script script → read ≡ Some script
+script_was_first : (read : Option Script) (script : Script) → answer_first read ≡ readings.Script script → read ≡ Some script
 script_was_first (Some other) script is = cc
 script_was_first None script is = absurd (cc)
 

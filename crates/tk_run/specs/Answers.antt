@@ -57,3 +57,9 @@ HeadlineAnswers _ input old new _ = Unit {0}
 -- words that are no command are answered so, and nothing is read
 abbrev pub IsUsage : Status → Type 0
 IsUsage answer = (answer ≡ statuses.Usage) ⊎ (answer ≡ statuses.WriteFault)
+
+-- the answers that may come once the input was read
+abbrev pub IsPastReading : Status → Type 0
+IsPastReading statuses.ReadFault = ⊥
+IsPastReading statuses.Usage = ⊥
+IsPastReading _ = Unit {0}

@@ -1,19 +1,14 @@
 -- How the input is read as a script: the one place that names how much of the grammar there is so far.
-use Rattle.std.specs.Prelude.{◌≡◌, ℕ, List, Option, Some, None}
+use Rattle.std.specs.Prelude.{ℕ, List}
 use Rattle.tk_types.specs.declared.script.Script.{Script}
 use Rattle.tk_types.specs.declared.script.Reading.{Reading}
 use Rattle.tk_types.specs.declared.script.Reading.TheVariants as readings
-use Rattle.tk_types.specs.declared.why.Why.TheVariants.{Later}
 use Rattle.tk_model.specs.Statements.{IsRunnable}
-use Rattle.tk_model.specs.ScriptReading.{SpellsFirst, reading_first}
-
-abbrev pub script_or_later : Option Script → Reading
-script_or_later (Some script) = readings.Script script
-script_or_later None = readings.Refused 0 Later
+use Rattle.tk_model.specs.ScriptReading.{SpellsFirst, answer_first, reading_first}
 
 -- what a text is read as
 unfoldable pub reading_of : List ℕ → Reading
-reading_of text = script_or_later (reading_first text)
+reading_of text = answer_first (reading_first text)
 
 -- a text spells a script
 abbrev pub Spells : List ℕ → Script → Type 0

@@ -2,11 +2,13 @@
 #![tactic(auto)]
 
 mod command;
+mod entry;
 mod refusal;
 mod run;
 mod status;
 mod turn;
 
 pub use command::{Command, command_of};
+pub use entry::program;
 pub use run::run_script;
 pub use status::Status;

@@ -2,7 +2,7 @@
 
 ghost use Rattle.std.specs.Prelude.{◌≡◌, ◌≤◌, length, IfOk};
 ghost use Rattle.tk_ports.specs.Streams.{Rose};
-ghost use Rattle.tk_run.specs.Answers.{IsCertain, IsUsage, OutcomeAnswers};
+ghost use Rattle.tk_run.specs.Answers.{IsCertain, IsPastReading, IsUsage, OutcomeAnswers};
 ghost use Rattle.tk_run.specs.Outcomes.{refusal_outcome, refusal_text, usage_outcome};
 
 use crate::status::Status;
@@ -30,6 +30,7 @@ fn refusal_text(alloc: Global, line: u32, why: Why) -> Result<Vec<u8>, OutOfMemo
 /// Writes why the input is refused.
 pub(crate) fn refuse<K: Sink>(alloc: Global, line: u32, why: Why, sink: &mut K) -> Status
     ensures outcome { OutcomeAnswers (refusal_outcome line why) (K.held sink.old) (K.held sink.new) result }
+    ensures past_reading { IsPastReading result }
     ensures write_fault { result ≡ Status.WriteFault → Rose (K.faulted sink.old) (K.faulted sink.new) }
     ensures faults_stay { K.faulted sink.old ≤ K.faulted sink.new }
     ensures certain { length (refusal_text line why) ≤ K.sure_room sink.old
