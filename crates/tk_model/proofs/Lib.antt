@@ -5,3 +5,4 @@ pub mod NumberLaws
 pub mod FirstTakes
 pub mod Splits
 pub mod FirstAgain
+pub mod ReadingLaws

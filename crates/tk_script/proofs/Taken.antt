@@ -48,8 +48,8 @@ ended form text long last =
 pub ended_form : (form text : List ℕ) (t : Bool) → length form ≡ length text + 1 → get_or form (length text) 0 ≡ 10 → t ≡ bytes_eq (take (length text) form) text → t ≡ bytes_eq form (text ++ 10 ∷ [])
 ended_form form text t long last is =
     is ∙ same_test (bytes_eq (take (length text) form) text) (bytes_eq form (text ++ 10 ∷ [])) (bytes_eq-Decides (take (length text) form) text) (bytes_eq-Decides form (text ++ 10 ∷ []))
-        (λ e. ended form text long last ∙ ap (λ (front : List ℕ). front ++ 10 ∷ []) e)
-        (λ e. ap (λ (whole : List ℕ). take (length text) whole) e ∙ take_at text (10 ∷ []) _ refl)
+    (λ e. ended form text long last ∙ ap (λ (front : List ℕ). front ++ 10 ∷ []) e)
+    (λ e. ap (λ (whole : List ℕ). take (length text) whole) e ∙ take_at text (10 ∷ []) _ refl)
 
 false_of : {P : Type 0} (b : Bool) → Decides b P → (P → ⊥) → false ≡ b
 false_of true d never = absurd (never (d.0 refl))
@@ -63,4 +63,4 @@ last_of (byte ∷ text) = last_of text
 pub other_end : (form text : List ℕ) → (get_or form (length text) 0 ≡ 10 → ⊥) → false ≡ bytes_eq form (text ++ 10 ∷ [])
 other_end form text other =
     false_of (bytes_eq form (text ++ 10 ∷ [])) (bytes_eq-Decides form (text ++ 10 ∷ []))
-        (λ e. other (ap (λ (whole : List ℕ). get_or whole (length text) 0) e ∙ last_of text))
+    (λ e. other (ap (λ (whole : List ℕ). get_or whole (length text) 0) e ∙ last_of text))

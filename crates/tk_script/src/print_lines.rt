@@ -10,7 +10,12 @@ use std::alloc::Global;
 use tk_types::{Body, BodyKind, Boot, Device, Interrupt, Kind, Label, OutOfMemory, Script, Stmt};
 
 /// Prints the lines of statements.
-fn print_stmts(out: &mut Vec<u8>, bodies: &[Body], labels: &[Label], stmts: &[Stmt]) -> Result<(), OutOfMemory>
+fn print_stmts(
+    out: &mut Vec<u8>,
+    bodies: &[Body],
+    labels: &[Label],
+    stmts: &[Stmt],
+) -> Result<(), OutOfMemory>
     ensures { OnOk result (out.new.items ≡ out.old.items ++ lines_text (map (stmt_words bodies.now labels.now) stmts.now)) }
 {
     'stmts: for stmt in stmts {
@@ -57,7 +62,12 @@ fn rest_from(stmts: &[Stmt], from: usize) -> &[Stmt]
 }
 
 /// Prints the lines of statements, among them those of labels.
-fn print_items(out: &mut Vec<u8>, bodies: &[Body], labels: &[Label], stmts: &[Stmt]) -> Result<(), OutOfMemory>
+fn print_items(
+    out: &mut Vec<u8>,
+    bodies: &[Body],
+    labels: &[Label],
+    stmts: &[Stmt],
+) -> Result<(), OutOfMemory>
     ensures { OnOk result (out.new.items ≡ out.old.items ++ lines_text (item_lines bodies.now labels.now stmts.now 0 labels.now)) }
 {
     let mut from: usize = 0;

@@ -5,10 +5,12 @@ ghost use Rattle.tk_model.specs.ScriptText.{chosen, barred, bar_joined, list_wor
 ghost use Rattle.tk_types.specs.CallNames.{form_of, text_of};
 ghost use Rattle.tk_script.specs.Words.{texts};
 
-use crate::put::{put, put_end, put_next, put_next_operand, put_next_register, put_register, put_signed};
+use crate::put::{
+    put, put_end, put_next, put_next_operand, put_next_register, put_register, put_signed,
+};
 use tk_types::{
-    ATTRIBUTE_WORDS, Arg, ArgumentKind, Body, CallName, Condition, FLAG_MODE_WORDS, Label, OPEN_MODE_WORDS,
-    Operand, Operation, OutOfMemory, SUSPEND_MODE_WORDS, Stmt,
+    ATTRIBUTE_WORDS, Arg, ArgumentKind, Body, CallName, Condition, FLAG_MODE_WORDS, Label,
+    OPEN_MODE_WORDS, Operand, Operation, OutOfMemory, SUSPEND_MODE_WORDS, Stmt,
 };
 
 /// The table of the words of a kind of list.
@@ -101,7 +103,12 @@ pub(crate) fn put_body(out: &mut Vec<u8>, bodies: &[Body], number: u8) -> Result
 
 /// Puts an argument, by its kind.
 #[tactic(auto, unfolding(tk_model::specs::ScriptText::arg_word, tk_model::specs::ScriptText::register_word))]
-fn put_arg(out: &mut Vec<u8>, bodies: &[Body], kind: ArgumentKind, arg: &Arg) -> Result<(), OutOfMemory>
+fn put_arg(
+    out: &mut Vec<u8>,
+    bodies: &[Body],
+    kind: ArgumentKind,
+    arg: &Arg,
+) -> Result<(), OutOfMemory>
     ensures { OnOk result (out.new.items ≡ out.old.items ++ arg_word bodies.now kind arg.now) }
 {
     match arg {
@@ -115,7 +122,12 @@ fn put_arg(out: &mut Vec<u8>, bodies: &[Body], kind: ArgumentKind, arg: &Arg) ->
 
 /// Puts arguments, with a space before each.
 #[tactic(auto, using(std::proofs::Common::append_assoc), unfolding(tk_model::specs::ScriptText::arg_words, tk_model::specs::ScriptText::gaps))]
-fn put_args(out: &mut Vec<u8>, bodies: &[Body], form: &[ArgumentKind], args: &[Arg]) -> Result<(), OutOfMemory>
+fn put_args(
+    out: &mut Vec<u8>,
+    bodies: &[Body],
+    form: &[ArgumentKind],
+    args: &[Arg],
+) -> Result<(), OutOfMemory>
     ensures { OnOk result (out.new.items ≡ out.old.items ++ gaps (arg_words bodies.now form.now args.now)) }
 {
     match form {
@@ -172,7 +184,12 @@ fn put_next_label(out: &mut Vec<u8>, labels: &[Label], place: usize) -> Result<(
 
 /// Puts the words of a jump.
 #[tactic(auto, using(crate::proofs::Appends::jump_words))]
-fn put_jump(out: &mut Vec<u8>, labels: &[Label], condition: Condition, label: u32) -> Result<(), OutOfMemory>
+fn put_jump(
+    out: &mut Vec<u8>,
+    labels: &[Label],
+    condition: Condition,
+    label: u32,
+) -> Result<(), OutOfMemory>
     ensures { OnOk result (out.new.items ≡ out.old.items ++ joined (condition_words condition ++ label_name (slice_get labels.now label) ∷ [])) }
 {
     put_condition(out, condition)?;
@@ -190,7 +207,12 @@ fn put_with_operand(out: &mut Vec<u8>, word: &str, value: Operand) -> Result<(),
 
 /// Puts a word, a register and an operand.
 #[tactic(auto, using(crate::proofs::Appends::three_words))]
-fn put_with_register(out: &mut Vec<u8>, word: &str, register: u8, value: Operand) -> Result<(), OutOfMemory>
+fn put_with_register(
+    out: &mut Vec<u8>,
+    word: &str,
+    register: u8,
+    value: Operand,
+) -> Result<(), OutOfMemory>
     ensures { OnOk result (out.new.items ≡ out.old.items ++ joined (word.now ∷ register_word register ∷ operand_word value ∷ [])) }
 {
     put(out, word.as_bytes())?;
@@ -227,7 +249,12 @@ fn put_alone(out: &mut Vec<u8>, word: &str) -> Result<(), OutOfMemory>
 
 /// Puts the words of a call.
 #[tactic(auto, using(crate::proofs::Appends::first_word))]
-fn put_call(out: &mut Vec<u8>, bodies: &[Body], name: CallName, args: &[Arg]) -> Result<(), OutOfMemory>
+fn put_call(
+    out: &mut Vec<u8>,
+    bodies: &[Body],
+    name: CallName,
+    args: &[Arg],
+) -> Result<(), OutOfMemory>
     ensures { OnOk result (out.new.items ≡ out.old.items ++ joined (text_of name ∷ arg_words bodies.now (form_of name) args.now)) }
 {
     put(out, name.text().as_bytes())?;
@@ -236,7 +263,12 @@ fn put_call(out: &mut Vec<u8>, bodies: &[Body], name: CallName, args: &[Arg]) ->
 
 /// Puts the words of a statement.
 #[tactic(auto, unfolding(tk_model::specs::ScriptText::stmt_words))]
-fn put_stmt(out: &mut Vec<u8>, bodies: &[Body], labels: &[Label], stmt: &Stmt) -> Result<(), OutOfMemory>
+fn put_stmt(
+    out: &mut Vec<u8>,
+    bodies: &[Body],
+    labels: &[Label],
+    stmt: &Stmt,
+) -> Result<(), OutOfMemory>
     ensures { OnOk result (out.new.items ≡ out.old.items ++ joined (stmt_words bodies.now labels.now stmt.now)) }
 {
     match stmt {
@@ -259,7 +291,12 @@ fn put_stmt(out: &mut Vec<u8>, bodies: &[Body], labels: &[Label], stmt: &Stmt) -
 
 /// Prints the line of a statement.
 #[tactic(auto, using(std::proofs::Common::append_assoc))]
-pub(crate) fn print_stmt(out: &mut Vec<u8>, bodies: &[Body], labels: &[Label], stmt: &Stmt) -> Result<(), OutOfMemory>
+pub(crate) fn print_stmt(
+    out: &mut Vec<u8>,
+    bodies: &[Body],
+    labels: &[Label],
+    stmt: &Stmt,
+) -> Result<(), OutOfMemory>
     ensures { OnOk result (out.new.items ≡ out.old.items ++ line_text (stmt_words bodies.now labels.now stmt.now)) }
 {
     put_stmt(out, bodies, labels, stmt)?;

@@ -15,4 +15,4 @@ pub returns-else-eq-clause-none : goal.returns-else-eq-clause-none
 returns-else-eq-clause-none c =
     let other = not_from_Decides c.eq.result (slice_eq-Decides Decides-eqb c.as_bytes.result.now c.args.word.now c.eq.result c.eq.ensures) c.if-eq.false in
     other_natural c.in-Ok.text.now c.args.word.now c.parse.result c.in-Ok-parse.read c.in-Ok.ensures.cases.0 c.in-Ok-parse.is c.parse.ensures.value.0
-        (λ same. other (c.as_bytes.ensures.value ∙ (c.format.ensures.text ∙ same)))
+    (λ same. other (c.as_bytes.ensures.value ∙ (c.format.ensures.text ∙ same)))
