@@ -1,0 +1,4 @@
+pub mod Budgets
+pub mod Runs
+pub mod Readings
+pub mod Told

@@ -1,0 +1,65 @@
+-- What holds with each answer of the calls of this crate: of the bytes that a sink took, and of the causes.
+use Rattle.std.specs.Prelude.{◌≡◌, ◌⊎◌, ℕ, List, Option, Some, None}
+use Rattle.tk_types.specs.declared.script.Script.{Script}
+use Rattle.tk_types.specs.declared.run.Mode.{Mode}
+use Rattle.tk_types.specs.declared.run.End.{End}
+use Rattle.tk_types.specs.declared.run.End.TheVariants as ends
+use Rattle.tk_ports.specs.Streams.{Appends, AppendsFront}
+use Rattle.tk_model.specs.Trace.{Trace, trace}
+use Rattle.tk_model.specs.LineText.{text_of_lines}
+use Rattle.tk_run.specs.declared.command.Command.{Command}
+use Rattle.tk_run.specs.declared.command.Command.TheVariants.{Run}
+use Rattle.tk_run.specs.declared.status.Status.{Status}
+use Rattle.tk_run.specs.declared.status.Status.TheVariants as statuses
+use Rattle.tk_run.specs.Commands.{command_of}
+use Rattle.tk_run.specs.Readings.{Spells}
+use Rattle.tk_run.specs.Outcomes.{Outcome}
+
+-- the status is the outcome's and all its bytes were taken, unless a stream failed or memory ran out
+abbrev pub OutcomeAnswers : Outcome → Option (List ℕ) → Option (List ℕ) → Status → Type 0
+OutcomeAnswers outcome old new statuses.Done = (outcome.status ≡ statuses.Done) × Appends old new outcome.bytes
+OutcomeAnswers outcome old new statuses.Budget = (outcome.status ≡ statuses.Budget) × Appends old new outcome.bytes
+OutcomeAnswers outcome old new (statuses.Refused line why) = (outcome.status ≡ statuses.Refused line why) × Appends old new outcome.bytes
+OutcomeAnswers outcome old new statuses.Usage = (outcome.status ≡ statuses.Usage) × Appends old new outcome.bytes
+OutcomeAnswers outcome old new statuses.ReadFault = new ≡ old
+OutcomeAnswers outcome old new statuses.WriteFault = AppendsFront old new outcome.bytes
+OutcomeAnswers outcome old new statuses.NoMemory = AppendsFront old new outcome.bytes
+
+-- the same of a run that is only written
+abbrev pub RunAnswers : Outcome → Option (List ℕ) → Option (List ℕ) → Status → Type 0
+RunAnswers outcome old new statuses.Done = (outcome.status ≡ statuses.Done) × Appends old new outcome.bytes
+RunAnswers outcome old new statuses.Budget = (outcome.status ≡ statuses.Budget) × Appends old new outcome.bytes
+RunAnswers outcome old new statuses.WriteFault = AppendsFront old new outcome.bytes
+RunAnswers outcome old new statuses.NoMemory = AppendsFront old new outcome.bytes
+RunAnswers outcome old new _ = ⊥
+
+-- no stream failed and no fault was counted: the status is this one, unless memory ran out
+pub record IsCertain (status : Status) (faults faults_now : ℕ) (answer : Status) : Type 0 where
+  pub answer_is : (answer ≡ status) ⊎ (answer ≡ statuses.NoMemory)
+  pub no_fault : faults_now ≡ faults
+
+-- the input spells a script, and the sink took the text of its trace, whose end is one of these
+abbrev pub WritesTrace : Mode → ℕ → List ℕ → Option (List ℕ) → Option (List ℕ) → (End → Type 0) → Type 0
+WritesTrace mode budget input old new IsEnd =
+    (script : Script) × Spells input script × IsEnd (trace script mode budget).end × Appends old new (text_of_lines (trace script mode budget).lines)
+
+abbrev pub IsDone : End → Type 0
+IsDone end = (end ≡ ends.Idle) ⊎ (end ≡ ends.Halt)
+
+-- what stands behind `Done` and `Budget`, said by what a text spells and not by how it is read
+abbrev pub HeadlineAnswers : Option Command → List ℕ → Option (List ℕ) → Option (List ℕ) → Status → Type 0
+HeadlineAnswers (Some (Run mode budget)) input old new statuses.Done = WritesTrace mode budget input old new IsDone
+HeadlineAnswers (Some (Run mode budget)) input old new statuses.Budget = WritesTrace mode budget input old new (λ end. end ≡ ends.Budget)
+HeadlineAnswers None input old new statuses.Done = ⊥
+HeadlineAnswers None input old new statuses.Budget = ⊥
+HeadlineAnswers _ input old new _ = Unit {0}
+
+-- words that are no command are answered so, and nothing is read
+abbrev pub IsUsage : Status → Type 0
+IsUsage answer = (answer ≡ statuses.Usage) ⊎ (answer ≡ statuses.WriteFault)
+
+-- the answers that may come once the input was read
+abbrev pub IsPastReading : Status → Type 0
+IsPastReading statuses.ReadFault = ⊥
+IsPastReading statuses.Usage = ⊥
+IsPastReading _ = Unit {0}

@@ -1,0 +1,66 @@
+-- What the program has to write and to answer, for its words and its input.
+use Rattle.std.specs.Prelude.{ℕ, List, [], ◌∷◌, ◌++◌, Option, Some, None, codes, decimal}
+use Rattle.tk_types.specs.declared.script.Script.{Script}
+use Rattle.tk_types.specs.declared.script.Reading.{Reading}
+use Rattle.tk_types.specs.declared.script.Reading.TheVariants as readings
+use Rattle.tk_types.specs.declared.run.Mode.{Mode}
+use Rattle.tk_types.specs.declared.run.End.{End}
+use Rattle.tk_types.specs.declared.run.End.TheVariants as ends
+use Rattle.tk_types.specs.declared.why.Why.{Why}
+use Rattle.tk_types.specs.Reasons.{why_text}
+use Rattle.tk_model.specs.Trace.{Trace, trace}
+use Rattle.tk_model.specs.LineText.{text_of_lines}
+use Rattle.tk_run.specs.declared.command.Command.{Command}
+use Rattle.tk_run.specs.declared.command.Command.TheVariants.{Run}
+use Rattle.tk_run.specs.declared.status.Status.{Status}
+use Rattle.tk_run.specs.declared.status.Status.TheVariants as statuses
+use Rattle.tk_run.specs.Commands.{command_of}
+use Rattle.tk_run.specs.Readings.{reading_of}
+
+pub record Outcome : Type 0 where
+  pub status : Status
+  pub bytes : List ℕ
+
+-- the number with which the process ends
+abbrev pub number_of : Status → ℕ
+number_of statuses.Done = 0
+number_of statuses.Budget = 1
+number_of (statuses.Refused line why) = 2
+number_of statuses.ReadFault = 3
+number_of statuses.WriteFault = 4
+number_of statuses.NoMemory = 5
+number_of statuses.Usage = 64
+
+-- a run that ended by itself is done
+abbrev pub status_of_end : End → Status
+status_of_end ends.Idle = statuses.Done
+status_of_end ends.Halt = statuses.Done
+status_of_end ends.Budget = statuses.Budget
+
+abbrev pub trace_outcome : Trace → Outcome
+trace_outcome run = record { status = status_of_end run.end; bytes = text_of_lines run.lines }
+
+-- `refused LINE WHY`
+unfoldable pub refusal_text : ℕ → Why → List ℕ
+refusal_text line why = codes "refused " ++ decimal line ++ codes " " ++ why_text why ++ codes "\n"
+
+abbrev pub refusal_outcome : ℕ → Why → Outcome
+refusal_outcome line why = record { status = statuses.Refused line why; bytes = refusal_text line why }
+
+-- the run of what was read, or its refusal
+abbrev pub reading_outcome : Mode → ℕ → Reading → Outcome
+reading_outcome mode budget (readings.Script script) = trace_outcome (trace script mode budget)
+reading_outcome mode budget (readings.Refused line why) = refusal_outcome line why
+
+unfoldable pub run_outcome : Mode → ℕ → List ℕ → Outcome
+run_outcome mode budget input = reading_outcome mode budget (reading_of input)
+
+abbrev pub usage_outcome : Outcome
+usage_outcome = record { status = statuses.Usage; bytes = codes "usage\n" }
+
+abbrev pub command_outcome : Option Command → List ℕ → Outcome
+command_outcome None input = usage_outcome
+command_outcome (Some (Run mode budget)) input = run_outcome mode budget input
+
+unfoldable pub outcome_of : List (List ℕ) → List ℕ → Outcome
+outcome_of words input = command_outcome (command_of words) input

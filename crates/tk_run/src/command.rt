@@ -1,0 +1,75 @@
+//! The words of the program, and the command that they are.
+
+ghost use Rattle.std.specs.Prelude.{◌≡◌, ◌≢◌, ℕ, ◌≤◌, map, string_bytes, decimal, IfSome, IfNone};
+ghost use Rattle.tk_run.specs.Commands.{IsBudget, IsCommand, budget_at, budget_in, command_of};
+
+use tk_text::natural;
+use tk_types::Mode;
+
+/// What the words of the program ask for.
+#[derive(Clone, Copy, Debug, PartialEq, Eq)]
+pub enum Command {
+    /// A run of the script that the input is, in a mode and of at most that many steps, from 1 to 1,000,000.
+    Run { mode: Mode, budget: u32 },
+}
+
+/// The steps of a run whose words name none.
+const DEFAULT_BUDGET: u32 = 100_000;
+
+/// The most steps that a run may be given.
+const MOST_STEPS: u64 = 1_000_000;
+
+/// The budget that a word spells: a number from 1 to 1,000,000 in digits of which the first isn't 0.
+#[tactic(auto, unfolding(crate::specs::Commands::budget_at))]
+fn budget_at(word: &[u8]) -> Option<u32>
+    ensures value { result ≡ budget_at word.now }
+    ensures some { IfSome result (λ n. (word.now ≡ decimal n) × IsBudget n) }
+    ensures none { IfNone result ((n : ℕ) → IsBudget n → word.now ≢ decimal n) }
+{
+    let Some(number) = natural(word) else {
+        return None;
+    };
+    if number < 1 || number > MOST_STEPS {
+        return None;
+    }
+    Some(number as u32)
+}
+
+/// The budget of the words behind `run`.
+#[tactic(auto, unfolding(crate::specs::Commands::budget_in))]
+fn budget_in(words: &[String]) -> Option<u32>
+    ensures value { result ≡ budget_in (map string_bytes words.now) }
+    ensures within { IfSome result IsBudget }
+{
+    let Some((option, behind)) = words.split_first() else {
+        return Some(DEFAULT_BUDGET);
+    };
+    let Some((number, others)) = behind.split_first() else {
+        return None;
+    };
+    if !others.is_empty() || option.as_str() != "--budget" {
+        return None;
+    }
+    budget_at(number.as_bytes())
+}
+
+/// The command that the words are, or `None` where they are none: `run`, and then nothing or `--budget N`.
+#[tactic(auto, unfolding(crate::specs::Commands::command_of))]
+pub fn command_of(words: &[String]) -> Option<Command>
+    ensures value { result ≡ command_of (map string_bytes words.now) }
+    ensures within { IfSome result IsCommand }
+{
+    let Some((name, behind)) = words.split_first() else {
+        return None;
+    };
+    if name.as_str() != "run" {
+        return None;
+    }
+    let Some(budget) = budget_in(behind) else {
+        return None;
+    };
+    Some(Command::Run {
+        mode: Mode::Free,
+        budget,
+    })
+}

@@ -1,0 +1,42 @@
+//! How a call of the program as a whole ends.
+
+ghost use Rattle.std.specs.Prelude.{◌≡◌};
+ghost use Rattle.tk_run.specs.Outcomes.{number_of};
+
+use tk_types::Why;
+
+/// How a call ended.
+#[derive(Clone, Copy, Debug, PartialEq, Eq)]
+pub enum Status {
+    /// The run ended by itself, with nothing left to do or by `halt`.
+    Done,
+    /// The run ended at its budget of steps.
+    Budget,
+    /// The input is refused at that line, for that reason.
+    Refused { line: u32, why: Why },
+    /// The source failed.
+    ReadFault,
+    /// The sink failed.
+    WriteFault,
+    /// The host's memory ran out.
+    NoMemory,
+    /// The words are no command.
+    Usage,
+}
+
+impl Status {
+    /// The number with which the process ends.
+    pub fn number(self) -> u8
+        ensures { result ≡ number_of self }
+    {
+        match self {
+            Status::Done => 0,
+            Status::Budget => 1,
+            Status::Refused { .. } => 2,
+            Status::ReadFault => 3,
+            Status::WriteFault => 4,
+            Status::NoMemory => 5,
+            Status::Usage => 64,
+        }
+    }
+}

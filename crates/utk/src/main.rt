@@ -1,0 +1,37 @@
+//! The simulator over the standard streams: it reads a script from the standard input, runs it, and writes its
+//! trace to the standard output. The exit status says how the run ended.
+#![tactic(auto)]
+
+use std::alloc::Global;
+use std::env;
+use std::io::ErrorKind;
+use std::process::ExitCode;
+use std::rt::Env;
+use tk_ports::{StdSink, StdSource};
+use tk_run::{Status, program};
+use tk_types::OutOfMemory;
+
+/// The arguments behind the program's name. Where one of them isn't text there are none, and so no command.
+fn words<R: Env + Alloc<A = Global>>(rt: &R) -> Result<Vec<String>, OutOfMemory> {
+    let mut words = Vec::new(rt.alloc());
+    match env::args(rt) {
+        Ok(arguments) => {
+            for word in arguments.skip(1) {
+                words.push(word)?;
+            }
+            Ok(words)
+        }
+        Err(error) if error.kind() == ErrorKind::OutOfMemory => Err(OutOfMemory),
+        Err(_) => Ok(words),
+    }
+}
+
+fn main(rt: HostRuntime) -> ExitCode {
+    let Ok(words) = words(&rt) else {
+        return ExitCode::from(Status::NoMemory.number());
+    };
+    let mut source = StdSource::new(&rt);
+    let mut sink = StdSink::new(&rt);
+    let status = program(rt.alloc(), &words, &mut source, &mut sink);
+    ExitCode::from(status.number())
+}
