@@ -6,6 +6,7 @@ mod decimal;
 mod fault;
 mod list;
 mod scanning;
+mod session;
 #[cfg(test)]
 mod tests;
 mod token;
@@ -15,5 +16,6 @@ pub use decimal::{natural, number};
 pub use fault::{fault_of, line_fault};
 pub use list::{list_bits, push_list};
 pub use scanning::{scan, tokens_before, tokens_of};
+pub use session::{Behind, Divider, Session, split_session};
 pub use tk_types::is_name;
 pub use token::{Scanned, TextFault, Token, Tokens};

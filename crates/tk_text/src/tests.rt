@@ -1,8 +1,8 @@
 //! One call of each public function, with answers taken from the rules of a script's text.
 
 use crate::{
-    Scanned, Token, cut, fault_of, is_name, line_fault, line_words, list_bits, natural, number,
-    push_list, scan, tokens_before, tokens_of,
+    Behind, Divider, Scanned, Session, Token, cut, fault_of, is_name, line_fault, line_words,
+    list_bits, natural, number, push_list, scan, split_session, tokens_before, tokens_of,
 };
 use std::test::Fail;
 use tk_types::{ATTRIBUTE_WORDS, Name, SUSPEND_MODE_WORDS, Sequence, Why};
@@ -150,4 +150,39 @@ fn a_sequence_grows(rt: HostRuntime) -> Result<(), Fail> {
     let primes = Sequence::from_vec(primes.into_vec());
     assert_eq!(rt; primes.as_slice(), [2, 3].as_slice());
     Ok(())
+}
+
+#[test]
+fn sessions_are_cut_at_the_first_divider(rt: HostRuntime) {
+    let text = b"utk 1\n  %journal  \n5 1 1 done\n%journal\n".as_slice();
+    let journal = split_session(text, Divider::Journal);
+    assert_eq!(rt;
+        journal,
+        Some(Session {
+            script: b"utk 1\n",
+            behind: Some(Behind {
+                line: 3,
+                bytes: b"5 1 1 done\n%journal\n"
+            }),
+        })
+    );
+    let other = split_session(text, Divider::Trace);
+    assert_eq!(rt;
+        other,
+        Some(Session {
+            script: text,
+            behind: None
+        })
+    );
+    let last = split_session(b"a %trace\n%trace", Divider::Trace);
+    assert_eq!(rt;
+        last,
+        Some(Session {
+            script: b"a %trace\n",
+            behind: Some(Behind {
+                line: 3,
+                bytes: b""
+            }),
+        })
+    );
 }
