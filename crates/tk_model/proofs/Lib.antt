@@ -2,3 +2,9 @@ pub mod Choice
 pub mod Steps
 pub mod Precedence
 pub mod Preemption
+pub mod Choices
+pub mod NumberLaws
+pub mod FirstTakes
+pub mod Splits
+pub mod FirstAgain
+pub mod ReadingLaws

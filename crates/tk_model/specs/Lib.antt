@@ -13,4 +13,7 @@ pub mod Machine
 pub mod Decimals
 pub mod Words
 pub mod Lists
+pub mod NumberWords
+pub mod ScriptText
+pub mod ScriptReading
 pub mod Rows

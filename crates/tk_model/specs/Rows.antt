@@ -4,3 +4,4 @@ pub mod OneStep
 pub mod Preemption
 pub mod WakeUp
 pub mod Refused
+pub mod Texts

@@ -1,0 +1,5 @@
+pub mod LineLoops
+pub mod Appends
+pub mod Taken
+pub mod Items
+pub mod Readings

@@ -1,0 +1,10 @@
+-- What a split collects is the parts.
+use Rattle.std.proofs.Common.{rules, refl, eqb}
+use Rattle.std.proofs.lemmas.Iterator.Consumers.{map_from_collect}
+use Rattle.std.proofs.lemmas.Iterator.Splits.{YieldsList-from_slice_split}
+use Rattle.tk_model.specs.ScriptReading.{split_lines}
+use Rattle.tk_script.proofs.words.lines.Goals as goal
+
+pub returns : goal.returns
+unfolding split_lines
+returns c = map_from_collect _ c.collect.ensures.ran (YieldsList-from_slice_split _ (λ byte. eqb byte 10) c.args.text.now c.split.ensures.rest c.split.ensures.done c.split.ensures.closure (λ x b q k. search rules))

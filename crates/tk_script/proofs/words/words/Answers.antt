@@ -1,0 +1,10 @@
+-- What a split collects is the parts.
+use Rattle.std.proofs.Common.{rules, refl, eqb}
+use Rattle.std.proofs.lemmas.Iterator.Consumers.{map_from_collect}
+use Rattle.std.proofs.lemmas.Iterator.Splits.{YieldsList-from_slice_split}
+use Rattle.tk_model.specs.ScriptReading.{split_words}
+use Rattle.tk_script.proofs.words.words.Goals as goal
+
+pub returns : goal.returns
+unfolding split_words
+returns c = map_from_collect _ c.collect.ensures.ran (YieldsList-from_slice_split _ (λ byte. eqb byte 32) c.args.line.now c.split.ensures.rest c.split.ensures.done c.split.ensures.closure (λ x b q k. search rules))
