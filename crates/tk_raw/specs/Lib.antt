@@ -1,0 +1,6 @@
+pub mod Heads
+pub mod RawText
+pub mod Pieces
+pub mod Lines
+pub mod RawReading
+pub mod Rows
