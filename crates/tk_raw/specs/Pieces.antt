@@ -1,5 +1,5 @@
 -- How the words of a line are read as numbers, names, lists and registers, and those behind a first word as arguments.
-use Rattle.std.specs.Prelude.{ℕ, ℤ, Bool, nat_lt, nat_le, ◌==◌, ◌&&◌, if◌then◌else◌, List, [], ◌∷◌, length, Option, Some, None, Result, Ok, Err}
+use Rattle.std.specs.Prelude.{ℕ, ℤ, Bool, nat_lt, nat_le, ◌==◌, ◌&&◌, if◌then◌else◌, List, [], ◌∷◌, ◌++◌, length, Option, Some, None, Result, Ok, Err}
 use Rattle.std.specs.Str.{bytes_eq}
 use Rattle.tk_types.specs.declared.call_name.ArgumentKind.{ArgumentKind}
 use Rattle.tk_types.specs.declared.call_name.ArgumentKind.TheVariants as kinds
@@ -90,19 +90,18 @@ piece_at kinds.Register word = register_piece (register_at word) whys.Name
 piece_at kinds.Label word = name_piece (name_at word)
 piece_at kinds.Text word = name_piece (name_at word)
 
--- the arguments that words are in the places of a form, from left to right
-unfoldable pub pieces_at : List ArgumentKind → List (List ℕ) → Result (List Piece) Why
-pieces_at [] [] = Ok []
-pieces_at [] (word ∷ words) = Err whys.Count
-pieces_at (kind ∷ form) [] = Err whys.Count
-pieces_at (kind ∷ form) (word ∷ words) = do
+-- the arguments that words are in the places of a form, from left to right, behind those that are there already
+unfoldable pub pieces_from : List ArgumentKind → List (List ℕ) → List Piece → Result (List Piece) Why
+pieces_from [] [] front = Ok front
+pieces_from [] (word ∷ words) front = Err whys.Count
+pieces_from (kind ∷ form) [] front = Err whys.Count
+pieces_from (kind ∷ form) (word ∷ words) front = do
   piece ← piece_at kind word
-  behind ← pieces_at form words
-  Ok (piece ∷ behind)
+  pieces_from form words (front ++ piece ∷ [])
 
 -- as many arguments as the form has, and each as its place wants
 unfoldable pub arguments_at : List ArgumentKind → List (List ℕ) → Result (List Piece) Why
-arguments_at form words = if length words == length form then pieces_at form words else Err whys.Count
+arguments_at form words = if length words == length form then pieces_from form words [] else Err whys.Count
 
 abbrev pub stmt_from : Option Head → List (List ℕ) → Result RawStmt Why
 stmt_from None words = Err whys.Word

@@ -246,9 +246,13 @@ abbrev pub step_in : Option RawBody → Builder → List ℕ → List (List ℕ)
 step_in None builder first words = outside builder first words
 step_in (Some body) builder first words = inside builder body first words
 
+-- what was read without the body that isn't at its end
+abbrev pub without_current : Builder → Builder
+without_current builder = record builder { current = None }
+
 -- a line with words
 unfoldable pub step : Builder → List ℕ → List (List ℕ) → Result Builder Why
-step builder first words = step_in builder.current builder first words
+step builder first words = step_in builder.current (without_current builder) first words
 
 -- the number of a line that was read is kept
 abbrev pub with_line : ℕ → Builder → Builder
