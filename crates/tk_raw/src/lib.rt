@@ -8,8 +8,10 @@ mod head;
 mod header;
 mod pieces;
 mod raw;
+mod read;
 mod reading;
 mod steps;
 
 pub use head::Head;
+pub use read::{RawReading, read_raw};
 pub use raw::{Piece, RawBody, RawBoot, RawItem, RawScript, RawStmt};

@@ -1,12 +1,13 @@
 //! Texts as scripts whose names aren't resolved yet.
 
-ghost use Rattle.std.specs.Prelude.{◌≡◌, ◌+◌, ◌≤◌, ◌<◌, ◌^◌, length};
+ghost use Rattle.std.specs.Prelude.{◌≡◌, ◌≤◌, ◌<◌, [], length};
 ghost use Rattle.std.specs.Option.{option_copied};
 ghost use Rattle.tk_text.specs.Tokens.{parts_left};
 ghost use Rattle.tk_model.specs.Lists.{texts};
 ghost use Rattle.tk_model.specs.Words.{lines_of};
 ghost use Rattle.tk_raw.specs.Gives.{Gives, GivesText};
 ghost use Rattle.tk_raw.specs.Lines.{begins_note, text_lines, whole_lines};
+ghost use Rattle.tk_raw.specs.TextLoops.{text_behind, in_line};
 ghost use Rattle.tk_raw.specs.RawReading.{clean, ended, head_line, is_head, no_lines, raw_reading, read_all, read_line, read_lines, script_with, words_line};
 
 use crate::builder::Builder;
@@ -146,4 +147,88 @@ fn ended(builder: Builder) -> Result<RawScript, ReadError>
             })
         }
     }
+}
+
+/// What stands behind a line: nothing where no line feed ends it.
+fn behind(rest: Option<&[u8]>) -> &[u8]
+    ensures { result.now ≡ text_behind (option_copied rest.entry) }
+{
+    match rest {
+        None => &[],
+        Some(bytes) => bytes,
+    }
+}
+
+/// What is wrong with that line.
+fn in_line(line: u32, error: ReadError) -> TextError
+    ensures { result ≡ in_line line error }
+{
+    match error {
+        ReadError::Memory => TextError::Memory,
+        ReadError::Refused(why) => TextError::Refused { line, why },
+    }
+}
+
+#[tactic(auto, unfolding(crate::specs::RawReading::read_lines), using(crate::proofs::TextLoops::refused_in_line))]
+/// The end of a text whose lines have numbers below that one.
+fn ended_at(number: u32, builder: Builder) -> Result<RawScript, TextError>
+    ensures { GivesText (λ raw. raw) result (read_lines number builder []) }
+{
+    match ended(builder) {
+        Ok(raw) => Ok(raw),
+        Err(error) => Err(in_line(number, error)),
+    }
+}
+
+/// The lines behind line 1, and then the end.
+fn read_lines(alloc: Global, builder: Builder, text: &[u8]) -> Result<RawScript, TextError>
+    requires { length text.now ≤ 1048576 }
+    ensures { GivesText (λ raw. raw) result (read_lines 2 builder (text_lines text.now)) }
+{
+    let mut number: u32 = 2;
+    let mut builder = builder;
+    let mut left = text;
+    'lines: while !left.is_empty() {
+        let (line, rest) = cut(left, b'\n');
+        match read_line(alloc, number, builder, line) {
+            Ok(next) => builder = next,
+            Err(error) => return Err(in_line(number, error)),
+        }
+        number += 1;
+        left = behind(rest);
+    }
+    ended_at(number, builder)
+}
+
+/// Line 1, the lines behind it, and the end. The text isn't empty.
+fn read_some(alloc: Global, text: &[u8]) -> Result<RawScript, TextError>
+    requires some { 0 < length text.now }
+    requires short { length text.now ≤ 1048576 }
+    ensures { GivesText (λ raw. raw) result (read_all (text_lines text.now)) }
+{
+    let (line, rest) = cut(text, b'\n');
+    match head_line(alloc, line) {
+        Ok(builder) => read_lines(alloc, builder, behind(rest)),
+        Err(error) => Err(in_line(1, error)),
+    }
+}
+
+/// The script that a text is, or the first line that is wrong.
+#[tactic(auto, unfolding(crate::specs::RawReading::raw_reading))]
+pub(crate) fn raw_reading(alloc: Global, text: &[u8]) -> Result<RawScript, TextError>
+    ensures { GivesText (λ raw. raw) result (raw_reading text.now) }
+{
+    if text.len() > LONGEST_TEXT {
+        return Err(TextError::Refused {
+            line: 0,
+            why: Why::Long,
+        });
+    }
+    if text.is_empty() {
+        return Err(TextError::Refused {
+            line: 1,
+            why: Why::Head,
+        });
+    }
+    read_some(alloc, text)
 }
