@@ -74,11 +74,20 @@ body_number bodies wanted name = number_at bodies wanted (body_place bodies name
 
 -- ---- labels
 
--- the labels of a body, each with the number of statements before it, behind those that are there already
+-- the labels with that of a line, before which so many statements stand
+abbrev pub labels_with : ℕ → RawItem → List Label → List Label
+labels_with place (items.Label name) front = front ++ record { name = name; place = place } ∷ []
+labels_with place (items.Stmt stmt) front = front
+
+-- how many statements stand before the next line
+abbrev pub place_behind : RawItem → ℕ → ℕ
+place_behind (items.Label name) place = place
+place_behind (items.Stmt stmt) place = place + 1
+
+-- the labels of lines, each with the number of statements before it, behind those that are there already
 unfoldable pub labels_from : ℕ → List RawItem → List Label → List Label
 labels_from place [] front = front
-labels_from place (items.Label name ∷ rest) front = labels_from place rest (front ++ record { name = name; place = place } ∷ [])
-labels_from place (items.Stmt stmt ∷ rest) front = labels_from (place + 1) rest front
+labels_from place (item ∷ rest) front = labels_from (place_behind item place) rest (labels_with place item front)
 
 -- the labels of the lines of a body
 abbrev pub labels_of : List RawItem → List Label
@@ -230,26 +239,83 @@ call_from bodies name list = do
 unfoldable pub call_of : List RawBody → BodyKind → CallName → List Piece → Result Stmt Why
 call_of bodies kind name list = if may_call kind name then call_from bodies name list else Err whys.Kind
 
--- the statement of a body of that kind with those labels
-unfoldable pub stmt_of : List RawBody → List Label → BodyKind → RawStmt → Result Stmt Why
-stmt_of bodies labels kind stmt = elim stmt.head [
-    heads.Set ↦ compute_of operations.Set stmt.pieces
-  | heads.Add ↦ compute_of operations.Add stmt.pieces
-  | heads.Sub ↦ compute_of operations.Sub stmt.pieces
-  | heads.Mul ↦ compute_of operations.Mul stmt.pieces
-  | heads.And ↦ compute_of operations.And stmt.pieces
-  | heads.Or ↦ compute_of operations.Or stmt.pieces
-  | heads.Xor ↦ compute_of operations.Xor stmt.pieces
-  | heads.Ldb ↦ load_of stmt.pieces
-  | heads.Stb ↦ store_of stmt.pieces
-  | heads.Jump ↦ jump_of labels stmt.pieces
-  | heads.Jeq ↦ branch_of labels comparisons.Equal stmt.pieces
-  | heads.Jne ↦ branch_of labels comparisons.NotEqual stmt.pieces
-  | heads.Jlt ↦ branch_of labels comparisons.Less stmt.pieces
-  | heads.Say ↦ say_of stmt.pieces
-  | heads.Show ↦ show_of stmt.pieces
-  | heads.Nop ↦ plain_of stmts.Nop stmt.pieces
-  | heads.Halt ↦ plain_of stmts.Halt stmt.pieces
-  | heads.Return ↦ return_of kind stmt.pieces
-  | heads.Call name ↦ call_of bodies kind name stmt.pieces
-  ]
+-- the statement with that first word, in a body of that kind with those labels
+unfoldable pub stmt_by : List RawBody → List Label → BodyKind → Head → List Piece → Result Stmt Why
+stmt_by bodies labels kind heads.Set list = compute_of operations.Set list
+stmt_by bodies labels kind heads.Add list = compute_of operations.Add list
+stmt_by bodies labels kind heads.Sub list = compute_of operations.Sub list
+stmt_by bodies labels kind heads.Mul list = compute_of operations.Mul list
+stmt_by bodies labels kind heads.And list = compute_of operations.And list
+stmt_by bodies labels kind heads.Or list = compute_of operations.Or list
+stmt_by bodies labels kind heads.Xor list = compute_of operations.Xor list
+stmt_by bodies labels kind heads.Ldb list = load_of list
+stmt_by bodies labels kind heads.Stb list = store_of list
+stmt_by bodies labels kind heads.Jump list = jump_of labels list
+stmt_by bodies labels kind heads.Jeq list = branch_of labels comparisons.Equal list
+stmt_by bodies labels kind heads.Jne list = branch_of labels comparisons.NotEqual list
+stmt_by bodies labels kind heads.Jlt list = branch_of labels comparisons.Less list
+stmt_by bodies labels kind heads.Say list = say_of list
+stmt_by bodies labels kind heads.Show list = show_of list
+stmt_by bodies labels kind heads.Nop list = plain_of stmts.Nop list
+stmt_by bodies labels kind heads.Halt list = plain_of stmts.Halt list
+stmt_by bodies labels kind heads.Return list = return_of kind list
+stmt_by bodies labels kind (heads.Call name) list = call_of bodies kind name list
+
+-- ---- lines. The numbers are those of the lines from the one on that is looked at
+
+-- the number of the first line of these
+abbrev pub first_number : List ℕ → ℕ
+first_number numbers = slice_index numbers 0
+
+-- the statements with that of a line; a label adds none
+unfoldable pub stmts_with : List RawBody → List Label → BodyKind → ℕ → RawItem → List Stmt → Result (List Stmt) Refusal
+stmts_with bodies labels kind number (items.Label name) front = Ok front
+stmts_with bodies labels kind number (items.Stmt stmt) front =
+    at_line number (stmt_by bodies labels kind stmt.head stmt.pieces) >>= λ found. Ok (front ++ found ∷ [])
+
+-- the statements of the lines of a body, behind those that are there already
+unfoldable pub stmts_from : List RawBody → List Label → BodyKind → List ℕ → List RawItem → List Stmt → Result (List Stmt) Refusal
+stmts_from bodies labels kind numbers [] front = Ok front
+stmts_from bodies labels kind numbers (item ∷ rest) front =
+    stmts_with bodies labels kind (first_number numbers) item front
+    >>= λ next. stmts_from bodies labels kind (drop 1 numbers) rest next
+
+-- a body; the numbers begin at its first line
+unfoldable pub body_of : List RawBody → List ℕ → RawBody → Result Body Refusal
+body_of bodies numbers body = do
+  found ← stmts_from bodies (labels_of body.items) body.kind (drop 1 numbers) body.items []
+  Ok (record { name = body.name; kind = body.kind; labels = labels_of body.items; stmts = found })
+
+-- the numbers behind a body: it has a first line and a last one
+unfoldable pub behind_body : RawBody → List ℕ → List ℕ
+behind_body body numbers = drop 1 (drop (length body.items) (drop 1 numbers))
+
+unfoldable pub bodies_with : List RawBody → List ℕ → RawBody → List Body → Result (List Body) Refusal
+bodies_with bodies numbers body front = do
+  found ← body_of bodies numbers body
+  Ok (front ++ found ∷ [])
+
+-- bodies, behind those that are there already
+unfoldable pub bodies_from : List RawBody → List ℕ → List RawBody → List Body → Result (List Body) Refusal
+bodies_from bodies numbers [] front = Ok front
+bodies_from bodies numbers (body ∷ rest) front =
+    bodies_with bodies numbers body front >>= λ next. bodies_from bodies (behind_body body numbers) rest next
+
+abbrev pub pace_count : Option ℕ → ℕ
+pace_count None = 0
+pace_count (Some pace) = 1
+
+-- the numbers from the boot line on
+unfoldable pub boot_numbers : RawScript → List ℕ
+boot_numbers raw = drop (length raw.irqs) (drop (pace_count raw.pace) (drop (length raw.devices) raw.lines))
+
+-- the body of the task at the start
+unfoldable pub boot_of : RawScript → Result ℕ Refusal
+boot_of raw = at_line (first_number (boot_numbers raw)) (body_number raw.bodies Task raw.boot.body)
+
+-- the script that a script is whose names are looked up, or the first line with a name that stands for nothing
+unfoldable pub resolved : RawScript → Result Script Refusal
+resolved raw = do
+  boot ← boot_of raw
+  bodies ← bodies_from raw.bodies (drop 1 (boot_numbers raw)) raw.bodies []
+  Ok (record { devices = raw.devices; pace = raw.pace; irqs = raw.irqs; boot = record { body = boot; priority = raw.boot.priority }; bodies = bodies })
