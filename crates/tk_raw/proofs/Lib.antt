@@ -1,2 +1,5 @@
 pub mod HeadLaws
 pub mod TextLoops
+pub mod Results
+pub mod WordLaws
+pub mod PieceLaws
