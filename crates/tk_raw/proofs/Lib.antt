@@ -3,3 +3,5 @@ pub mod TextLoops
 pub mod Results
 pub mod WordLaws
 pub mod PieceLaws
+pub mod StatementLaws
+pub mod Differing
