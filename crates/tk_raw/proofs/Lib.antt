@@ -5,3 +5,4 @@ pub mod WordLaws
 pub mod PieceLaws
 pub mod StatementLaws
 pub mod Differing
+pub mod HeaderLaws
