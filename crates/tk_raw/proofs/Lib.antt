@@ -6,3 +6,5 @@ pub mod PieceLaws
 pub mod StatementLaws
 pub mod Differing
 pub mod HeaderLaws
+pub mod Built
+pub mod StepTakes
