@@ -8,3 +8,4 @@ pub mod Differing
 pub mod HeaderLaws
 pub mod Built
 pub mod StepTakes
+pub mod StepsAgain

@@ -146,7 +146,7 @@ in_order_with (Some boot) bodies current e = tt
 closed_names : (b : Builder) → b.current ≡ None → built_names b ≡ body_names b.bodies
 closed_names b closed = ap (λ (o : Option RawBody). body_names b.bodies ++ current_names o) closed ∙ append-nil (body_names b.bodies)
 
-names_of : (bodies : List RawBody) → length (body_names bodies) ≡ length bodies
+pub names_of : (bodies : List RawBody) → length (body_names bodies) ≡ length bodies
 names_of [] = refl
 names_of (body ∷ bodies) = ap suc (names_of bodies)
 
