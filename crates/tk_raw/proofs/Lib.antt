@@ -9,3 +9,4 @@ pub mod HeaderLaws
 pub mod Built
 pub mod StepTakes
 pub mod StepsAgain
+pub mod TextTakes

@@ -143,7 +143,7 @@ in_order_with None bodies current e = absurd (cc)
 in_order_with (Some boot) bodies current e = tt
 
 -- the names of the bodies where no body is open
-closed_names : (b : Builder) → b.current ≡ None → built_names b ≡ body_names b.bodies
+pub closed_names : (b : Builder) → b.current ≡ None → built_names b ≡ body_names b.bodies
 closed_names b closed = ap (λ (o : Option RawBody). body_names b.bodies ++ current_names o) closed ∙ append-nil (body_names b.bodies)
 
 pub names_of : (bodies : List RawBody) → length (body_names bodies) ≡ length bodies

@@ -35,7 +35,7 @@ steps b [] = Ok b
 steps b ([] ∷ lines) = Err whys.Order
 steps b ((first ∷ words) ∷ lines) = step b first words >>= λ next. steps next lines
 
-one_more : (b next : Builder) (first : List ℕ) (words : Line) (lines : List Line) → step b first words ≡ Ok next → steps b ((first ∷ words) ∷ lines) ≡ steps next lines
+pub one_more : (b next : Builder) (first : List ℕ) (words : Line) (lines : List Line) → step b first words ≡ Ok next → steps b ((first ∷ words) ∷ lines) ≡ steps next lines
 unfolding steps
 one_more b next first words lines e = rw e refl
 
