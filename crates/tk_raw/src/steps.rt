@@ -239,7 +239,6 @@ pub(crate) fn step(
         boot,
         bodies,
         current,
-        lines,
     } = builder;
     let builder = Builder {
         devices,
@@ -248,7 +247,6 @@ pub(crate) fn step(
         boot,
         bodies,
         current: None,
-        lines,
     };
     match current {
         None => outside(alloc, builder, first, words),
