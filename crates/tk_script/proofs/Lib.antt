@@ -2,3 +2,5 @@ pub mod Appends
 pub mod Items
 pub mod Loops
 pub mod BuiltLoops
+pub mod NameLaws
+pub mod ArgumentLaws
