@@ -4,3 +4,4 @@ pub mod Loops
 pub mod BuiltLoops
 pub mod NameLaws
 pub mod ArgumentLaws
+pub mod StatementLaws
