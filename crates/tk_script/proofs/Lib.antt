@@ -5,3 +5,6 @@ pub mod BuiltLoops
 pub mod NameLaws
 pub mod ArgumentLaws
 pub mod StatementLaws
+pub mod Weaving
+pub mod BodyLaws
+pub mod ScriptLaws
