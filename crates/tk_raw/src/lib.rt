@@ -6,6 +6,7 @@ mod builder;
 mod errors;
 mod head;
 mod header;
+pub mod laws;
 mod pieces;
 mod raw;
 mod read;
