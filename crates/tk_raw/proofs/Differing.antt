@@ -13,12 +13,12 @@ among names word = list_any (λ (name : List ℕ). bytes_eq name word) names
 
 any_behind : (word last : List ℕ) (names : List (List ℕ)) → list_any (bytes_eq word) (names ++ last ∷ []) ≡ (list_any (bytes_eq word) names || bytes_eq word last)
 any_behind word last [] = or_false (bytes_eq word last)
-    where
+  where
     or_false : (b : Bool) → (b || false) ≡ b
     or_false true = refl
     or_false false = refl
 any_behind word last (name ∷ names) = rw (any_behind word last names) (or_later (bytes_eq word name) (list_any (bytes_eq word) names) (bytes_eq word last))
-    where
+  where
     or_later : (a b c : Bool) → (a || (b || c)) ≡ ((a || b) || c)
     or_later true b c = refl
     or_later false b c = refl

@@ -28,14 +28,14 @@ use Rattle.tk_raw.proofs.WordLaws.{number_takes, number_again, name_takes, name_
 chosen_word : {A : Type 0} (word text : List ℕ) (x y : A) (rest : Result A Why) → cond (bytes_eq word text) (fine x) rest ≡ Ok y → ((word ≡ text) × (x ≡ y)) ⊎ (rest ≡ Ok y)
 chosen_word {A} word text x y rest e =
     let by : ((bytes_eq word text ≡ true) × (fine x ≡ Ok y)) ⊎ ((bytes_eq word text ≡ false) × (rest ≡ Ok y)) → ((word ≡ text) × (x ≡ y)) ⊎ (rest ≡ Ok y) = λ way. elim way as (λ _. ((word ≡ text) × (x ≡ y)) ⊎ (rest ≡ Ok y))
-        [ inl here ↦ inl ((bytes_eq-Decides word text).0 here.0, ok_is x y here.1) | inr later ↦ inr later.1 ]
+    [ inl here ↦ inl ((bytes_eq-Decides word text).0 here.0, ok_is x y here.1) | inr later ↦ inr later.1 ]
     in by (went (bytes_eq word text) (fine x) rest (Ok y) e)
 
 -- what holds of the value of the word that it is
 by_word : {A : Type 0} (P : List ℕ → A → Type 0) (word text : List ℕ) (x y : A) (rest : Result A Why) → P text x → (rest ≡ Ok y → P word y) → cond (bytes_eq word text) (fine x) rest ≡ Ok y → P word y
 by_word {A} P word text x y rest is later e =
     let by : ((word ≡ text) × (x ≡ y)) ⊎ (rest ≡ Ok y) → P word y = λ way. elim way as (λ _. P word y)
-        [ inl here ↦ subst (λ (w : List ℕ). P w y) (sym here.0) (subst (P text) here.1 is) | inr behind ↦ later behind ]
+    [ inl here ↦ subst (λ (w : List ℕ). P w y) (sym here.0) (subst (P text) here.1 is) | inr behind ↦ later behind ]
     in by (chosen_word word text x y rest e)
 
 new_name_takes : (taken : Bool) (name y : List ℕ) → new_name taken name ≡ Ok y → (taken ≡ false) × (name ≡ y)

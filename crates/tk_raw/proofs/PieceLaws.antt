@@ -61,9 +61,10 @@ name_piece_takes kind word (Err why) piece fits e = absurd (cc)
 name_or_dash_takes : (kind : ArgumentKind) (word : List ℕ) (piece : Piece) → ((name : List ℕ) → IsName 16 name → FitsPiece kind (pieces.Name name)) → FitsPiece kind pieces.Dash → name_or_dash_at word ≡ Ok piece → Taken kind word piece
 unfolding name_or_dash_at piece_word
 name_or_dash_takes kind word piece name_fits dash_fits e =
-    let by : ((bytes_eq word dash ≡ true) × (fine pieces.Dash ≡ Ok piece)) ⊎ ((bytes_eq word dash ≡ false) × (name_piece (name_at word) ≡ Ok piece)) → Taken kind word piece = λ way. elim way as (λ _. Taken kind word piece)
-        [ inl dashed ↦ subst (Taken kind word) (ok_is pieces.Dash piece dashed.1) (sym ((bytes_eq-Decides word dash).0 dashed.0), dash_fits)
-        | inr named ↦ name_piece_takes kind word (name_at word) piece (λ name is. let t = name_takes word name is in (t.0, name_fits name t.1)) named.1 ]
+    let by : ((bytes_eq word dash ≡ true) × (fine pieces.Dash ≡ Ok piece)) ⊎ ((bytes_eq word dash ≡ false) × (name_piece (name_at word) ≡ Ok piece)) → Taken kind word piece = λ way. elim way as (λ _. Taken kind word piece) [
+      | inl dashed ↦ subst (Taken kind word) (ok_is pieces.Dash piece dashed.1) (sym ((bytes_eq-Decides word dash).0 dashed.0), dash_fits)
+      | inr named ↦ name_piece_takes kind word (name_at word) piece (λ name is. let t = name_takes word name is in (t.0, name_fits name t.1)) named.1
+    ]
     in by (went (bytes_eq word dash) (fine pieces.Dash) (name_piece (name_at word)) (Ok piece) e)
 
 -- what is read is spelled so

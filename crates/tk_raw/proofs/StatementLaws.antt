@@ -25,7 +25,7 @@ found : {X : Type 0} (test : X → Bool) (xs : List X) (y : X) → find test xs 
 found test [] y e = absurd (cc)
 found {X} test (x ∷ xs) y e =
     let by : ((test x ≡ true) × (Some x ≡ Some y)) ⊎ ((test x ≡ false) × (find test xs ≡ Some y)) → test y ≡ true = λ way. elim way as (λ _. test y ≡ true)
-        [ inl here ↦ subst (λ (z : X). test z ≡ true) (some_is x y here.1) here.0 | inr later ↦ found test xs y later.1 ]
+    [ inl here ↦ subst (λ (z : X). test z ≡ true) (some_is x y here.1) here.0 | inr later ↦ found test xs y later.1 ]
     in by (went (test x) (Some x) (find test xs) (Some y) e)
 
 own_takes : (word : List ℕ) (head : Head) → own_head word ≡ Some head → head_text head ≡ word

@@ -82,10 +82,11 @@ from_lines (line ∷ lines) raw is_clean kept numbers is =
     let rest = lines_again 2 no_lines lines (made raw.devices raw.pace raw.irqs (Some raw.boot) raw.bodies None) raw is_clean.1 read end in
     ap (λ fault. then_read 1 (clean fault (if is_head (words_of line) then fine no_lines else Err whys.Head)) (λ reached. read_lines 2 reached lines)) is_clean.0
     ∙ (ap (λ (t : Bool). then_read 1 (if t then fine no_lines else Err whys.Head) (λ reached. read_lines 2 reached lines)) head ∙ rest)
-    where
+  where
     first_of : List Line → Line
     first_of [] = []
     first_of (first ∷ lines) = first
+
     rest_of : List Line → List Line
     rest_of [] = []
     rest_of (first ∷ lines) = lines

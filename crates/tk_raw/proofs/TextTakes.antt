@@ -62,9 +62,10 @@ word_adds number reached next first words rows numbers last true e read =
     (ap (λ (r : Reached). steps r.builder rows) same ∙ read, ap (λ (r : Reached). r.lines ++ numbers) same)
 word_adds number reached next first words rows numbers last false e read =
     let d = bind_ok (step reached.builder first words) (λ b. fine (record { builder = b; lines = reached.lines ++ number ∷ [] })) next e in
-    let same = ok_is (record { builder = d.0; lines = reached.lines ++ number ∷ [] }) next d.2 in
-    (one_more reached.builder d.0 first words rows d.1 ∙ (ap (λ (r : Reached). steps r.builder rows) same ∙ read),
-     sym (append_assoc reached.lines (number ∷ []) numbers) ∙ ap (λ (r : Reached). r.lines ++ numbers) same)
+    let same = ok_is (record { builder = d.0; lines = reached.lines ++ number ∷ [] }) next d.2 in (
+      one_more reached.builder d.0 first words rows d.1 ∙ (ap (λ (r : Reached). steps r.builder rows) same ∙ read),
+      sym (append_assoc reached.lines (number ∷ []) numbers) ∙ ap (λ (r : Reached). r.lines ++ numbers) same,
+    )
 
 line_adds : (number : ℕ) (reached next : Reached) (words : Line) (rows : List Line) (numbers : List ℕ) (last : Builder) → words_line number reached words ≡ Ok next → steps next.builder rows ≡ Ok last → AddsLine number reached next words rows numbers last (is_kept words)
 unfolding words_line is_kept
@@ -136,8 +137,18 @@ as_many_numbers number (line ∷ lines) =
 built_nothing : IsBuilt nothing
 unfolding StepsRise all_differ
 built_nothing = record {
-  few_devices = omega arith; devices = tt; devices_differ = refl; pace = tt; few_irqs = omega arith; irqs = omega arith; boot = tt;
-  few_bodies = omega arith; bodies_differ = refl; bodies = tt; current = tt; order = (refl, refl);
+  few_devices = omega arith;
+  devices = tt;
+  devices_differ = refl;
+  pace = tt;
+  few_irqs = omega arith;
+  irqs = omega arith;
+  boot = tt;
+  few_bodies = omega arith;
+  bodies_differ = refl;
+  bodies = tt;
+  current = tt;
+  order = (refl, refl);
 }
 
 -- the lines of what was read in the end
@@ -151,8 +162,14 @@ whole_script b boot numbers is with_boot closed some numbered =
     let names = closed_names b closed in
     let few : length b.bodies ≤ 255 = subst (λ (n : ℕ). n ≤ 255) (ap (λ (ns : List (List ℕ)). length ns) names ∙ names_of b.bodies) is.few_bodies in
     record {
-      few_devices = is.few_devices; devices = is.devices; devices_differ = is.devices_differ; pace = is.pace; few_irqs = is.few_irqs; irqs = is.irqs;
-      boot_body = boot_is.0; boot_priority = boot_is.1;
+      few_devices = is.few_devices;
+      devices = is.devices;
+      devices_differ = is.devices_differ;
+      pace = is.pace;
+      few_irqs = is.few_irqs;
+      irqs = is.irqs;
+      boot_body = boot_is.0;
+      boot_priority = boot_is.1;
       few_bodies = (some, few);
       bodies_differ = ap all_differ (sym names) ∙ is.bodies_differ;
       bodies = is.bodies;

@@ -12,7 +12,9 @@ mod raw;
 mod read;
 mod reading;
 mod steps;
+#[cfg(test)]
+mod tests;
 
 pub use head::Head;
-pub use read::{RawReading, read_raw};
 pub use raw::{Piece, RawBody, RawBoot, RawItem, RawScript, RawStmt};
+pub use read::{RawReading, read_raw};

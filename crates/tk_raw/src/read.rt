@@ -18,10 +18,7 @@ use tk_types::{OutOfMemory, Why};
 pub enum RawReading {
     Raw(RawScript),
     /// The first line that is wrong, counted from 1, and why; line 0 is the text as a whole.
-    Refused {
-        line: u32,
-        why: Why,
-    },
+    Refused { line: u32, why: Why },
 }
 
 /// The answer to a text.
