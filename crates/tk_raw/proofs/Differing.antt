@@ -1,11 +1,11 @@
 -- Names that differ, and steps that don't fall, with one more behind them.
-use Rattle.std.proofs.Common.{◌≡◌, ◌∙◌, refl, sym, ap, subst, arith, ℕ, ◌+◌, ◌-◌, ◌≤◌, Bool, true, false, not, ◌&&◌, ◌||◌, List, [], ◌∷◌, ◌++◌, length, map, Option, Some, None}
+use Rattle.std.proofs.Common.{◌≡◌, ◌∙◌, refl, sym, ap, arith, ℕ, ◌-◌, ◌≤◌, Bool, true, false, not, ◌&&◌, ◌||◌, List, [], ◌∷◌, ◌++◌, length, map}
 use Rattle.std.specs.Prelude.{bytes_eq, slice_get}
 use Rattle.std.specs.List.{list_any, AllByRecursion}
 use Rattle.tk_types.specs.declared.script.Interrupt.{Interrupt}
 use Rattle.tk_model.specs.ScriptText.{all_differ, StepsRise, IsBetween}
 use Rattle.tk_raw.specs.RawReading.{least_step, step_or_one}
-use Rattle.tk_raw.proofs.Results.{both_true, both, false_of_not}
+use Rattle.tk_raw.proofs.Results.{both_true, false_of_not}
 
 -- whether one of the names is the word
 abbrev pub among : List (List ℕ) → List ℕ → Bool

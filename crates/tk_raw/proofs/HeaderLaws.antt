@@ -1,7 +1,6 @@
 -- The parts of a script that one line gives: what is read is spelled so, and each is read as itself.
-use Rattle.std.proofs.Common.{◌≡◌, ◌∙◌, refl, sym, ap, subst, arith, inl, inr, ℕ, suc, ◌+◌, ◌<◌, ◌≤◌, ◌^◌, Bool, true, false, not, cond, eqb, ◌&&◌, List, [], ◌∷◌, ◌++◌, length, map, Option, Some, None, Result, Ok, Err}
-use Rattle.std.specs.Prelude.{bytes_eq, codes, decimal, ◌⊎◌, if◌then◌else◌}
-use Rattle.std.specs.List.{AllByRecursion}
+use Rattle.std.proofs.Common.{◌≡◌, ◌∙◌, refl, sym, ap, subst, arith, inl, inr, ℕ, ◌≤◌, Bool, true, false, cond, eqb, List, [], ◌∷◌, length, Result, Ok}
+use Rattle.std.specs.Prelude.{bytes_eq, codes, decimal, ◌⊎◌}
 use Rattle.std.proofs.lemmas.Slice.Eq.{bytes_eq-Decides}
 use Rattle.tk_types.specs.declared.script.BodyKind.{BodyKind}
 use Rattle.tk_types.specs.declared.script.BodyKind.TheVariants.{Task, Hand, Svc}
@@ -11,13 +10,12 @@ use Rattle.tk_types.specs.declared.script.Kind.{Kind}
 use Rattle.tk_types.specs.declared.script.Kind.TheVariants as units
 use Rattle.tk_types.specs.declared.why.Why.{Why}
 use Rattle.tk_types.specs.declared.why.Why.TheVariants as whys
-use Rattle.tk_model.specs.ScriptText.{unit_words, device_words, pace_lines, irq_words, body_kind_word, IsBetween, IsName, IsDevice, FitsUnit}
+use Rattle.tk_model.specs.ScriptText.{unit_words, device_words, irq_words, body_kind_word, IsBetween, IsName, IsDevice, FitsUnit}
 use Rattle.tk_raw.specs.declared.builder.UnitWord.{UnitWord}
 use Rattle.tk_raw.specs.declared.builder.UnitWord.TheVariants as words
 use Rattle.tk_raw.specs.declared.raw.RawBody.{RawBody}
 use Rattle.tk_raw.specs.declared.raw.RawBoot.{RawBoot}
 use Rattle.tk_raw.specs.declared.raw.RawItem.{RawItem}
-use Rattle.tk_raw.specs.declared.raw.RawItem.TheVariants as items
 use Rattle.tk_raw.specs.Pieces.{◌>>=◌, name_at, short_name_at, number_between}
 use Rattle.tk_raw.specs.RawText.{raw_boot_words}
 use Rattle.tk_raw.specs.RawReading.{new_name, device_taken, body_taken, label_taken, unit_named, unit_count, ram_at, flaky_at, slow_at, unit_at, new_device_name, device_from, device_at, pace_at, least_step, irq_from, irq_at, boot_from, boot_at, kind_named, new_body_name, body_from, body_at, new_label, label_at}

@@ -1,5 +1,5 @@
 -- What is answered, by what a text spells.
-use Rattle.std.proofs.Common.{◌≡◌, ◌∙◌, sym, ap, refl, ℕ, List, Result, Ok, Err}
+use Rattle.std.proofs.Common.{◌≡◌, ◌∙◌, sym, ap, ℕ, List, Result, Ok, Err}
 use Rattle.std.specs.Prelude.{IfOk}
 use Rattle.tk_types.specs.declared.memory.OutOfMemory.{OutOfMemory}
 use Rattle.tk_raw.specs.Answers.{answer}

@@ -1,30 +1,28 @@
 -- A line that is read is the next line of what was read.
-use Rattle.std.proofs.Common.{◌≡◌, ◌∙◌, refl, sym, ap, subst, arith, inl, inr, ℕ, suc, ◌+◌, ◌<◌, ◌≤◌, Bool, true, false, not, cond, eqb, ltb, ◌&&◌, List, [], ◌∷◌, ◌++◌, length, length-append, append_assoc, map, Option, Some, None, Result, Ok, Err}
-use Rattle.std.specs.Prelude.{bytes_eq, codes, decimal, nat_lt, IfSome, ◌⊎◌}
-use Rattle.std.specs.List.{AllByRecursion, list_any}
+use Rattle.std.proofs.Common.{◌≡◌, ◌∙◌, refl, sym, ap, subst, arith, inl, inr, ℕ, suc, ◌<◌, ◌≤◌, true, false, not, cond, eqb, ◌&&◌, List, [], ◌∷◌, ◌++◌, length, length-append, map, Option, Some, None, Result, Ok}
+use Rattle.std.specs.Prelude.{bytes_eq, codes, nat_lt, ◌⊎◌}
+use Rattle.std.specs.List.{AllByRecursion}
 use Rattle.std.specs.Option.{is_some}
 use Rattle.std.proofs.lemmas.List.{append-nil}
 use Rattle.std.proofs.lemmas.Bool.{ltb-true, eqb-true}
 use Rattle.std.proofs.lemmas.Slice.Eq.{bytes_eq-Decides}
 use Rattle.tk_types.specs.declared.script.Device.{Device}
-use Rattle.tk_types.specs.declared.script.Interrupt.{Interrupt}
 use Rattle.tk_types.specs.declared.why.Why.{Why}
 use Rattle.tk_types.specs.declared.why.Why.TheVariants as whys
-use Rattle.tk_model.specs.ScriptText.{device_words, pace_lines, irq_words, body_kind_word, all_differ, IsBetween, IsName, IsDevice, StepsRise}
+use Rattle.tk_model.specs.ScriptText.{body_kind_word, all_differ, IsName, IsDevice}
 use Rattle.tk_raw.specs.declared.builder.Builder.{Builder}
 use Rattle.tk_raw.specs.declared.raw.RawBody.{RawBody}
 use Rattle.tk_raw.specs.declared.raw.RawBoot.{RawBoot}
 use Rattle.tk_raw.specs.declared.raw.RawItem.{RawItem}
 use Rattle.tk_raw.specs.declared.raw.RawItem.TheVariants as items
-use Rattle.tk_raw.specs.declared.raw.RawStmt.{RawStmt}
 use Rattle.tk_raw.specs.Pieces.{◌>>=◌, raw_stmt_at}
-use Rattle.tk_raw.specs.RawText.{raw_item_words, raw_stmt_words, open_body_lines, raw_body_lines, device_names, body_names, label_names, FitsItem, IsRawBody}
-use Rattle.tk_raw.specs.RawReading.{device_taken, body_taken, label_taken, is_label, device_at, pace_at, irq_at, boot_at, body_at, label_at, least_step, takes_device, takes_pace, takes_irq, takes_boot, takes_body, device_line, pace_line, irq_line, boot_line, body_line, end_line, label_line, stmt_line, outside, inside, with_item, step_in, without_current, step}
-use Rattle.tk_raw.proofs.Results.{bind_ok, fine, ok_is, passed, went, both_true, false_of_not, none_of, some_of}
+use Rattle.tk_raw.specs.RawText.{raw_item_words, open_body_lines, device_names, body_names, label_names, FitsItem, IsRawBody}
+use Rattle.tk_raw.specs.RawReading.{device_taken, body_taken, label_taken, is_label, device_at, pace_at, irq_at, boot_at, body_at, label_at, takes_device, takes_pace, takes_irq, takes_boot, takes_body, device_line, pace_line, irq_line, boot_line, body_line, end_line, label_line, stmt_line, outside, inside, with_item, step_in, without_current, step}
+use Rattle.tk_raw.proofs.Results.{bind_ok, fine, ok_is, passed, went, both_true, false_of_not, none_of}
 use Rattle.tk_raw.proofs.Differing.{among, differ_grown, steps_grown, least_is_last, last_step, all_grown, map_behind, any_mapped}
-use Rattle.tk_raw.proofs.HeaderLaws.{TakenDevice, device_takes, pace_takes, TakenIrq, irq_takes, IsBoot, boot_takes, TakenBody, body_takes, label_takes}
+use Rattle.tk_raw.proofs.HeaderLaws.{device_takes, pace_takes, irq_takes, boot_takes, body_takes, label_takes}
 use Rattle.tk_raw.proofs.StatementLaws.{statement_takes}
-use Rattle.tk_raw.proofs.Built.{Line, IsBuilt, InOrder, built_lines, built_names, opened, current_lines, current_names, device_grows, pace_grows, irq_grows, boot_grows, current_grows, item_grows, end_grows}
+use Rattle.tk_raw.proofs.Built.{Line, IsBuilt, InOrder, built_lines, built_names, opened, current_names, device_grows, pace_grows, irq_grows, boot_grows, current_grows, item_grows, end_grows}
 
 -- what a line makes of what was read: its next line
 pub record Grown (before : List Line) (line : Line) (new : Builder) : Type 0 where

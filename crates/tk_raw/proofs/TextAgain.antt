@@ -1,12 +1,12 @@
 -- What a text spells is read of it.
-use Rattle.std.proofs.Common.{◌≡◌, ◌∙◌, refl, sym, ap, subst, arith, ℕ, suc, ◌+◌, ◌<◌, ◌≤◌, Bool, true, false, not, cond, eqb, ltb, ◌&&◌, List, [], ◌∷◌, ◌++◌, length, append_assoc, map, Option, Some, None, Result, Ok, Err}
-use Rattle.std.specs.Prelude.{◌↔◌, codes, nat_lt, if◌then◌else◌}
+use Rattle.std.proofs.Common.{◌≡◌, ◌∙◌, refl, sym, ap, arith, ℕ, ◌+◌, ◌≤◌, Bool, true, false, eqb, ltb, List, [], ◌∷◌, ◌++◌, length, append_assoc, Some, None, Result, Ok, Err}
+use Rattle.std.specs.Prelude.{◌↔◌, if◌then◌else◌}
 use Rattle.std.specs.List.{AllByRecursion}
 use Rattle.std.proofs.lemmas.List.{append-nil}
 use Rattle.std.proofs.lemmas.Bool.Decides.{nat_tests}
 use Rattle.tk_types.specs.declared.why.Why.{Why}
 use Rattle.tk_types.specs.declared.why.Why.TheVariants as whys
-use Rattle.tk_model.specs.Words.{words_of, line_fault}
+use Rattle.tk_model.specs.Words.{words_of}
 use Rattle.tk_model.specs.ScriptText.{head_words}
 use Rattle.tk_raw.specs.declared.builder.Builder.{Builder}
 use Rattle.tk_raw.specs.declared.builder.Reached.{Reached}
@@ -14,11 +14,11 @@ use Rattle.tk_raw.specs.declared.raw.RawScript.{RawScript}
 use Rattle.tk_raw.specs.Pieces.{◌>>=◌}
 use Rattle.tk_raw.specs.Lines.{text_lines, begins_note, is_kept, kept_behind, numbers_behind, kept_from, numbers_from, IsCleanLine}
 use Rattle.tk_raw.specs.RawText.{raw_lines, IsRaw}
-use Rattle.tk_raw.specs.RawReading.{Refusal, step, words_line, clean, read_line, is_head, nothing, no_lines, head_line, script_of, script_with, ended, then_read, read_lines, read_all, raw_reading}
+use Rattle.tk_raw.specs.RawReading.{Refusal, step, words_line, clean, read_line, is_head, nothing, no_lines, head_line, ended, then_read, read_lines, read_all, raw_reading}
 use Rattle.tk_raw.specs.Spelling.{SpellsRaw}
 use Rattle.tk_raw.proofs.Results.{bind_ok, fine, ok_is}
 use Rattle.tk_raw.proofs.Built.{Line, made}
-use Rattle.tk_raw.proofs.StepsAgain.{steps, one_more, steps_again}
+use Rattle.tk_raw.proofs.StepsAgain.{steps, steps_again}
 use Rattle.tk_raw.proofs.TextTakes.{at_last, raw_takes}
 
 -- what is reached behind a line, where the lines that are kept are read

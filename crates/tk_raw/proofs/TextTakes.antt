@@ -1,29 +1,26 @@
 -- What is read of a text is what the text spells.
-use Rattle.std.proofs.Common.{◌≡◌, ◌∙◌, refl, sym, ap, subst, arith, ℕ, suc, ◌+◌, ◌<◌, ◌≤◌, Bool, true, false, not, cond, eqb, ltb, ◌&&◌, List, [], ◌∷◌, ◌++◌, length, length-append, append_assoc, map, Option, Some, None, Result, Ok, Err}
+use Rattle.std.proofs.Common.{◌≡◌, ◌∙◌, refl, sym, ap, subst, arith, ℕ, suc, ◌+◌, ◌≤◌, Bool, true, false, cond, eqb, ltb, List, [], ◌∷◌, ◌++◌, length, append_assoc, Option, Some, None, Result, Ok, Err}
 use Rattle.std.specs.Prelude.{bytes_eq, codes, nat_lt, IfSome, flat_map, if◌then◌else◌}
 use Rattle.std.specs.List.{AllByRecursion}
 use Rattle.std.specs.Option.{is_some}
 use Rattle.std.proofs.lemmas.List.{append-nil}
 use Rattle.std.proofs.lemmas.Bool.Decides.{nat_tests}
 use Rattle.std.proofs.lemmas.Slice.Eq.{bytes_eq-Decides}
-use Rattle.tk_types.specs.declared.script.Device.{Device}
-use Rattle.tk_types.specs.declared.script.Interrupt.{Interrupt}
 use Rattle.tk_types.specs.declared.why.Why.{Why}
 use Rattle.tk_types.specs.declared.why.Why.TheVariants as whys
 use Rattle.tk_model.specs.Words.{words_of, line_fault}
-use Rattle.tk_model.specs.ScriptText.{head_words, device_words, pace_lines, irq_words, all_differ, IsBetween, StepsRise}
+use Rattle.tk_model.specs.ScriptText.{head_words, all_differ, StepsRise}
 use Rattle.tk_raw.specs.declared.builder.Builder.{Builder}
 use Rattle.tk_raw.specs.declared.builder.Reached.{Reached}
-use Rattle.tk_raw.specs.declared.raw.RawBody.{RawBody}
 use Rattle.tk_raw.specs.declared.raw.RawBoot.{RawBoot}
 use Rattle.tk_raw.specs.declared.raw.RawScript.{RawScript}
 use Rattle.tk_raw.specs.Pieces.{◌>>=◌}
 use Rattle.tk_raw.specs.Lines.{text_lines, begins_note, is_kept, kept_behind, numbers_behind, kept_from, numbers_from, IsCleanLine}
-use Rattle.tk_raw.specs.RawText.{raw_body_lines, raw_boot_words, raw_lines, body_names, IsRaw}
+use Rattle.tk_raw.specs.RawText.{raw_body_lines, raw_lines, IsRaw}
 use Rattle.tk_raw.specs.RawReading.{Refusal, step, words_line, clean, read_line, is_head, nothing, no_lines, head_line, script_of, script_with, ended, then_read, read_lines, read_all, raw_reading}
 use Rattle.tk_raw.specs.Spelling.{SpellsRaw}
 use Rattle.tk_raw.proofs.Results.{bind_ok, fine, ok_is, passed, not_failed, both_true, none_of}
-use Rattle.tk_raw.proofs.Built.{Line, IsBuilt, built_lines, built_names, made}
+use Rattle.tk_raw.proofs.Built.{Line, IsBuilt, built_lines}
 use Rattle.tk_raw.proofs.HeaderLaws.{IsBoot}
 use Rattle.tk_raw.proofs.StepTakes.{step_takes, closed_names, names_of}
 use Rattle.tk_raw.proofs.StepsAgain.{steps, one_more}

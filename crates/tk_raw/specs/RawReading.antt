@@ -1,5 +1,5 @@
 -- How a text is read line by line, as a script whose names aren't resolved yet, or as the first line that is wrong.
-use Rattle.std.specs.Prelude.{ℕ, ◌+◌, ◌-◌, Bool, true, false, not, nat_lt, nat_le, ◌==◌, ◌&&◌, if◌then◌else◌, List, [], ◌∷◌, ◌++◌, map, length, Option, Some, None, Result, Ok, Err, codes, slice_get}
+use Rattle.std.specs.Prelude.{ℕ, ◌+◌, ◌-◌, Bool, false, not, nat_lt, ◌==◌, ◌&&◌, if◌then◌else◌, List, [], ◌∷◌, ◌++◌, length, Option, Some, None, Result, Ok, Err, codes, slice_get}
 use Rattle.std.specs.List.{list_any}
 use Rattle.std.specs.Option.{is_some}
 use Rattle.std.specs.Str.{bytes_eq}
@@ -13,7 +13,7 @@ use Rattle.tk_types.specs.declared.why.Why.{Why}
 use Rattle.tk_types.specs.declared.why.Why.TheVariants as whys
 use Rattle.tk_model.specs.Words.{words_of, line_fault}
 use Rattle.tk_raw.specs.Lines.{text_lines, begins_note}
-use Rattle.tk_raw.specs.Pieces.{◌>>=◌, tested, name_at, short_name_at, number_between, raw_stmt_at}
+use Rattle.tk_raw.specs.Pieces.{◌>>=◌, name_at, short_name_at, number_between, raw_stmt_at}
 use Rattle.tk_raw.specs.declared.builder.Builder.{Builder}
 use Rattle.tk_raw.specs.declared.builder.Reached.{Reached}
 use Rattle.tk_raw.specs.declared.builder.UnitWord.{UnitWord}

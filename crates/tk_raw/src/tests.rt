@@ -20,25 +20,34 @@ fn a_script_is_read(rt: HostRuntime) -> Result<(), Fail> {
     match read_raw(rt.alloc(), text)? {
         RawReading::Refused { line: _, why: _ } => assert!(rt; false),
         RawReading::Raw(raw) => {
-            assert_eq!(rt; raw.devices.as_slice()[0].kind, Kind::Ram(512));
+            assert_eq!(rt;
+                raw.devices.as_slice().first().map(|device| device.kind),
+                Some(Kind::Ram(512))
+            );
             assert_eq!(rt; raw.pace, Some(10));
-            assert_eq!(rt; raw.irqs.as_slice()[0].number, 7);
+            assert_eq!(rt; raw.irqs.as_slice().first().map(|irq| irq.number), Some(7));
             assert_eq!(rt; raw.boot.priority, 10);
             assert_eq!(rt;
                 raw.lines.as_slice(),
                 [2, 3, 6, 7, 8, 9, 10, 11, 12].as_slice()
             );
-            let body = &raw.bodies.as_slice()[0];
-            assert_eq!(rt; body.kind, BodyKind::Task);
-            match &body.items.as_slice()[1] {
-                RawItem::Label(_) => assert!(rt; false),
-                RawItem::Stmt(stmt) => {
-                    assert_eq!(rt; stmt.head, Head::Set);
-                    assert_eq!(rt;
-                        stmt.pieces.as_slice(),
-                        [Piece::Register(1), Piece::Number(-5)].as_slice()
-                    );
-                }
+            match raw.bodies.as_slice() {
+                [body] => match body.items.as_slice() {
+                    [RawItem::Label(_), RawItem::Stmt(set), RawItem::Stmt(define)] => {
+                        assert_eq!(rt; body.kind, BodyKind::Task);
+                        assert_eq!(rt; set.head, Head::Set);
+                        assert_eq!(rt;
+                            set.pieces.as_slice(),
+                            [Piece::Register(1), Piece::Number(-5)].as_slice()
+                        );
+                        assert_eq!(rt;
+                            define.pieces.as_slice(),
+                            [Piece::Number(1), Piece::Dash].as_slice()
+                        );
+                    }
+                    _ => assert!(rt; false),
+                },
+                _ => assert!(rt; false),
             }
         }
     }
