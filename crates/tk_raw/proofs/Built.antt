@@ -1,12 +1,12 @@
 -- What was read so far, as lines, and what it is: the lines that were read, in order.
-use Rattle.std.proofs.Common.{◌≡◌, ◌∙◌, refl, sym, ap, subst, arith, ℕ, suc, ◌+◌, ◌<◌, ◌≤◌, Bool, true, false, not, cond, eqb, ◌&&◌, List, [], ◌∷◌, ◌++◌, length, length-append, append_assoc, map, Option, Some, None, Result, Ok, Err}
+use Rattle.std.proofs.Common.{◌≡◌, ◌∙◌, refl, ap, ℕ, ◌≤◌, true, List, [], ◌∷◌, ◌++◌, length, append_assoc, map, Option, Some, None}
 use Rattle.std.specs.Prelude.{codes, decimal, flat_map, IfSome}
 use Rattle.std.specs.List.{AllByRecursion}
 use Rattle.std.proofs.lemmas.List.{append-nil}
 use Rattle.std.proofs.lemmas.List.Concat.{flat_map-append}
 use Rattle.tk_types.specs.declared.script.Device.{Device}
 use Rattle.tk_types.specs.declared.script.Interrupt.{Interrupt}
-use Rattle.tk_model.specs.ScriptText.{device_words, pace_lines, irq_words, body_kind_word, all_differ, IsBetween, IsName, IsDevice, StepsRise}
+use Rattle.tk_model.specs.ScriptText.{device_words, pace_lines, irq_words, body_kind_word, all_differ, IsBetween, IsDevice, StepsRise}
 use Rattle.tk_raw.specs.declared.builder.Builder.{Builder}
 use Rattle.tk_raw.specs.declared.raw.RawBody.{RawBody}
 use Rattle.tk_raw.specs.declared.raw.RawBoot.{RawBoot}

@@ -1,11 +1,11 @@
 -- Names that differ, and steps that don't fall, with one more behind them.
-use Rattle.std.proofs.Common.{◌≡◌, ◌∙◌, refl, sym, ap, subst, arith, ℕ, ◌+◌, ◌-◌, ◌≤◌, Bool, true, false, not, ◌&&◌, ◌||◌, List, [], ◌∷◌, ◌++◌, length, map, Option, Some, None}
+use Rattle.std.proofs.Common.{◌≡◌, ◌∙◌, refl, sym, ap, arith, ℕ, ◌-◌, ◌≤◌, Bool, true, false, not, ◌&&◌, ◌||◌, List, [], ◌∷◌, ◌++◌, length, map}
 use Rattle.std.specs.Prelude.{bytes_eq, slice_get}
 use Rattle.std.specs.List.{list_any, AllByRecursion}
 use Rattle.tk_types.specs.declared.script.Interrupt.{Interrupt}
 use Rattle.tk_model.specs.ScriptText.{all_differ, StepsRise, IsBetween}
 use Rattle.tk_raw.specs.RawReading.{least_step, step_or_one}
-use Rattle.tk_raw.proofs.Results.{both_true, both, false_of_not}
+use Rattle.tk_raw.proofs.Results.{both_true, false_of_not}
 
 -- whether one of the names is the word
 abbrev pub among : List (List ℕ) → List ℕ → Bool
@@ -13,12 +13,12 @@ among names word = list_any (λ (name : List ℕ). bytes_eq name word) names
 
 any_behind : (word last : List ℕ) (names : List (List ℕ)) → list_any (bytes_eq word) (names ++ last ∷ []) ≡ (list_any (bytes_eq word) names || bytes_eq word last)
 any_behind word last [] = or_false (bytes_eq word last)
-    where
+  where
     or_false : (b : Bool) → (b || false) ≡ b
     or_false true = refl
     or_false false = refl
 any_behind word last (name ∷ names) = rw (any_behind word last names) (or_later (bytes_eq word name) (list_any (bytes_eq word) names) (bytes_eq word last))
-    where
+  where
     or_later : (a b c : Bool) → (a || (b || c)) ≡ ((a || b) || c)
     or_later true b c = refl
     or_later false b c = refl

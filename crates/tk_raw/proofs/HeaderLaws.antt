@@ -1,7 +1,6 @@
 -- The parts of a script that one line gives: what is read is spelled so, and each is read as itself.
-use Rattle.std.proofs.Common.{◌≡◌, ◌∙◌, refl, sym, ap, subst, arith, inl, inr, ℕ, suc, ◌+◌, ◌<◌, ◌≤◌, ◌^◌, Bool, true, false, not, cond, eqb, ◌&&◌, List, [], ◌∷◌, ◌++◌, length, map, Option, Some, None, Result, Ok, Err}
-use Rattle.std.specs.Prelude.{bytes_eq, codes, decimal, ◌⊎◌, if◌then◌else◌}
-use Rattle.std.specs.List.{AllByRecursion}
+use Rattle.std.proofs.Common.{◌≡◌, ◌∙◌, refl, sym, ap, subst, arith, inl, inr, ℕ, ◌≤◌, Bool, true, false, cond, eqb, List, [], ◌∷◌, length, Result, Ok}
+use Rattle.std.specs.Prelude.{bytes_eq, codes, decimal, ◌⊎◌}
 use Rattle.std.proofs.lemmas.Slice.Eq.{bytes_eq-Decides}
 use Rattle.tk_types.specs.declared.script.BodyKind.{BodyKind}
 use Rattle.tk_types.specs.declared.script.BodyKind.TheVariants.{Task, Hand, Svc}
@@ -11,13 +10,12 @@ use Rattle.tk_types.specs.declared.script.Kind.{Kind}
 use Rattle.tk_types.specs.declared.script.Kind.TheVariants as units
 use Rattle.tk_types.specs.declared.why.Why.{Why}
 use Rattle.tk_types.specs.declared.why.Why.TheVariants as whys
-use Rattle.tk_model.specs.ScriptText.{unit_words, device_words, pace_lines, irq_words, body_kind_word, IsBetween, IsName, IsDevice, FitsUnit}
+use Rattle.tk_model.specs.ScriptText.{unit_words, device_words, irq_words, body_kind_word, IsBetween, IsName, IsDevice, FitsUnit}
 use Rattle.tk_raw.specs.declared.builder.UnitWord.{UnitWord}
 use Rattle.tk_raw.specs.declared.builder.UnitWord.TheVariants as words
 use Rattle.tk_raw.specs.declared.raw.RawBody.{RawBody}
 use Rattle.tk_raw.specs.declared.raw.RawBoot.{RawBoot}
 use Rattle.tk_raw.specs.declared.raw.RawItem.{RawItem}
-use Rattle.tk_raw.specs.declared.raw.RawItem.TheVariants as items
 use Rattle.tk_raw.specs.Pieces.{◌>>=◌, name_at, short_name_at, number_between}
 use Rattle.tk_raw.specs.RawText.{raw_boot_words}
 use Rattle.tk_raw.specs.RawReading.{new_name, device_taken, body_taken, label_taken, unit_named, unit_count, ram_at, flaky_at, slow_at, unit_at, new_device_name, device_from, device_at, pace_at, least_step, irq_from, irq_at, boot_from, boot_at, kind_named, new_body_name, body_from, body_at, new_label, label_at}
@@ -28,14 +26,14 @@ use Rattle.tk_raw.proofs.WordLaws.{number_takes, number_again, name_takes, name_
 chosen_word : {A : Type 0} (word text : List ℕ) (x y : A) (rest : Result A Why) → cond (bytes_eq word text) (fine x) rest ≡ Ok y → ((word ≡ text) × (x ≡ y)) ⊎ (rest ≡ Ok y)
 chosen_word {A} word text x y rest e =
     let by : ((bytes_eq word text ≡ true) × (fine x ≡ Ok y)) ⊎ ((bytes_eq word text ≡ false) × (rest ≡ Ok y)) → ((word ≡ text) × (x ≡ y)) ⊎ (rest ≡ Ok y) = λ way. elim way as (λ _. ((word ≡ text) × (x ≡ y)) ⊎ (rest ≡ Ok y))
-        [ inl here ↦ inl ((bytes_eq-Decides word text).0 here.0, ok_is x y here.1) | inr later ↦ inr later.1 ]
+    [ inl here ↦ inl ((bytes_eq-Decides word text).0 here.0, ok_is x y here.1) | inr later ↦ inr later.1 ]
     in by (went (bytes_eq word text) (fine x) rest (Ok y) e)
 
 -- what holds of the value of the word that it is
 by_word : {A : Type 0} (P : List ℕ → A → Type 0) (word text : List ℕ) (x y : A) (rest : Result A Why) → P text x → (rest ≡ Ok y → P word y) → cond (bytes_eq word text) (fine x) rest ≡ Ok y → P word y
 by_word {A} P word text x y rest is later e =
     let by : ((word ≡ text) × (x ≡ y)) ⊎ (rest ≡ Ok y) → P word y = λ way. elim way as (λ _. P word y)
-        [ inl here ↦ subst (λ (w : List ℕ). P w y) (sym here.0) (subst (P text) here.1 is) | inr behind ↦ later behind ]
+    [ inl here ↦ subst (λ (w : List ℕ). P w y) (sym here.0) (subst (P text) here.1 is) | inr behind ↦ later behind ]
     in by (chosen_word word text x y rest e)
 
 new_name_takes : (taken : Bool) (name y : List ℕ) → new_name taken name ≡ Ok y → (taken ≡ false) × (name ≡ y)

@@ -10,3 +10,5 @@ pub mod Built
 pub mod StepTakes
 pub mod StepsAgain
 pub mod TextTakes
+pub mod TextAgain
+pub mod Readings

@@ -1,30 +1,25 @@
 -- Arguments and statements: what is read is spelled so, and each is read as itself. All goes by the kinds of arguments.
-use Rattle.std.proofs.Common.{◌≡◌, ◌∙◌, refl, sym, ap, subst, arith, inl, inr, ℕ, zero, suc, ◌+◌, ◌<◌, ◌≤◌, ◌^◌, Bool, true, false, not, cond, eqb, ltb, leb, ◌&&◌, List, [], ◌∷◌, ◌++◌, length, map, append_assoc, Option, Some, None, Result, Ok, Err}
-use Rattle.std.specs.Prelude.{ℤ, decimal, bytes_eq, find, codes, ◌⊎◌}
-use Rattle.std.specs.Fmt.{signed_decimal}
-use Rattle.std.specs.Int.{w32}
-use Rattle.std.specs.Int.RustNames.{FitsSigned}
-use Rattle.std.specs.Option.{option_map}
+use Rattle.std.proofs.Common.{◌≡◌, ◌∙◌, refl, sym, ap, subst, arith, inl, inr, ℕ, suc, ◌<◌, ◌^◌, true, false, eqb, List, [], ◌∷◌, ◌++◌, length, append_assoc, Option, Some, None, Result, Ok, Err}
+use Rattle.std.specs.Prelude.{ℤ, bytes_eq, ◌⊎◌}
 use Rattle.std.proofs.lemmas.List.{append-nil}
-use Rattle.std.proofs.lemmas.Bool.{eqb-true}
 use Rattle.std.proofs.lemmas.Bool.Decides.{nat_tests}
 use Rattle.std.proofs.lemmas.Slice.Eq.{bytes_eq-Decides}
 use Rattle.tk_types.specs.declared.call_name.ArgumentKind.{ArgumentKind}
 use Rattle.tk_types.specs.declared.call_name.ArgumentKind.TheVariants as kinds
 use Rattle.tk_types.specs.declared.why.Why.{Why}
 use Rattle.tk_types.specs.declared.why.Why.TheVariants as whys
-use Rattle.tk_model.specs.Decimals.{number_at, natural_at}
-use Rattle.tk_model.specs.Lists.{list_at, list_text_of, is_table}
-use Rattle.tk_model.specs.ScriptText.{dash, register_word, table_of, IsName}
+use Rattle.tk_model.specs.Decimals.{number_at}
+use Rattle.tk_model.specs.Lists.{list_at}
+use Rattle.tk_model.specs.ScriptText.{dash, table_of, IsName}
 use Rattle.tk_text.proofs.Decimals.{number_at_some, number_at_again}
 use Rattle.tk_text.proofs.ListLaws.{list_takes, list_again, list_below}
 use Rattle.tk_text.proofs.ListTables.{attributes_are_table, flag_modes_are_table, open_modes_are_table, suspend_modes_are_table}
 use Rattle.tk_raw.specs.declared.raw.Piece.{Piece}
 use Rattle.tk_raw.specs.declared.raw.Piece.TheVariants as pieces
 use Rattle.tk_raw.specs.RawText.{piece_word, piece_words, FitsPiece, FitsPieces}
-use Rattle.tk_raw.specs.Pieces.{◌>>=◌, register_at, register_piece, value_piece, value_at, list_piece, name_piece, name_at, short_name_at, name_or_dash_at, piece_at, pieces_from, arguments_at}
+use Rattle.tk_raw.specs.Pieces.{register_at, register_piece, value_piece, value_at, list_piece, name_piece, name_at, short_name_at, name_or_dash_at, piece_at, pieces_from, arguments_at}
 use Rattle.tk_raw.proofs.Results.{bind_ok, fine, ok_is, passed, went}
-use Rattle.tk_raw.proofs.WordLaws.{register_takes, register_again, register_is_no_number, name_takes, name_again, short_name_takes, short_name_again, wider, name_is_no_dash}
+use Rattle.tk_raw.proofs.WordLaws.{register_takes, register_again, register_is_no_number, name_takes, name_again, short_name_takes, short_name_again, name_is_no_dash}
 
 -- an argument that a word spells and that may stand in the place
 abbrev pub Taken : ArgumentKind → List ℕ → Piece → Type 0
@@ -61,9 +56,10 @@ name_piece_takes kind word (Err why) piece fits e = absurd (cc)
 name_or_dash_takes : (kind : ArgumentKind) (word : List ℕ) (piece : Piece) → ((name : List ℕ) → IsName 16 name → FitsPiece kind (pieces.Name name)) → FitsPiece kind pieces.Dash → name_or_dash_at word ≡ Ok piece → Taken kind word piece
 unfolding name_or_dash_at piece_word
 name_or_dash_takes kind word piece name_fits dash_fits e =
-    let by : ((bytes_eq word dash ≡ true) × (fine pieces.Dash ≡ Ok piece)) ⊎ ((bytes_eq word dash ≡ false) × (name_piece (name_at word) ≡ Ok piece)) → Taken kind word piece = λ way. elim way as (λ _. Taken kind word piece)
-        [ inl dashed ↦ subst (Taken kind word) (ok_is pieces.Dash piece dashed.1) (sym ((bytes_eq-Decides word dash).0 dashed.0), dash_fits)
-        | inr named ↦ name_piece_takes kind word (name_at word) piece (λ name is. let t = name_takes word name is in (t.0, name_fits name t.1)) named.1 ]
+    let by : ((bytes_eq word dash ≡ true) × (fine pieces.Dash ≡ Ok piece)) ⊎ ((bytes_eq word dash ≡ false) × (name_piece (name_at word) ≡ Ok piece)) → Taken kind word piece = λ way. elim way as (λ _. Taken kind word piece) [
+      | inl dashed ↦ subst (Taken kind word) (ok_is pieces.Dash piece dashed.1) (sym ((bytes_eq-Decides word dash).0 dashed.0), dash_fits)
+      | inr named ↦ name_piece_takes kind word (name_at word) piece (λ name is. let t = name_takes word name is in (t.0, name_fits name t.1)) named.1
+    ]
     in by (went (bytes_eq word dash) (fine pieces.Dash) (name_piece (name_at word)) (Ok piece) e)
 
 -- what is read is spelled so

@@ -1,5 +1,5 @@
 -- What a result that is known says of the steps that gave it.
-use Rattle.std.proofs.Common.{◌≡◌, inl, inr, refl, sym, ap, subst, ℕ, Bool, true, false, not, cond, ◌&&◌, ◌||◌, Option, Some, None, Result, Ok, Err}
+use Rattle.std.proofs.Common.{◌≡◌, inl, inr, refl, Bool, true, false, not, cond, ◌&&◌, Option, Some, None, Result, Ok, Err}
 use Rattle.std.specs.Prelude.{◌⊎◌}
 use Rattle.std.specs.Option.{is_some}
 use Rattle.tk_types.specs.declared.why.Why.{Why}

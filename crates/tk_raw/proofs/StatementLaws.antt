@@ -1,20 +1,18 @@
 -- First words and statements: what is read is spelled so, and each is read as itself.
-use Rattle.std.proofs.Common.{◌≡◌, ◌∙◌, refl, sym, ap, subst, inl, inr, ℕ, Bool, true, false, cond, List, [], ◌∷◌, Option, Some, None, Result, Ok, Err}
+use Rattle.std.proofs.Common.{◌≡◌, ◌∙◌, refl, ap, subst, inl, inr, ℕ, Bool, true, false, List, [], ◌∷◌, Option, Some, None, Ok}
 use Rattle.std.specs.Prelude.{bytes_eq, find, ◌⊎◌}
 use Rattle.std.specs.Option.{option_map}
 use Rattle.std.proofs.lemmas.Slice.Eq.{bytes_eq-Decides}
 use Rattle.tk_types.specs.declared.call_name.CallName.{CallName}
-use Rattle.tk_types.specs.CallNames.{text_of, named}
-use Rattle.tk_types.specs.declared.why.Why.{Why}
+use Rattle.tk_types.specs.CallNames.{named}
 use Rattle.tk_raw.specs.declared.head.Head.{Head}
 use Rattle.tk_raw.specs.declared.head.Head.TheVariants as heads
 use Rattle.tk_raw.specs.declared.head.TheConstants.{OWN_HEADS}
-use Rattle.tk_raw.specs.declared.raw.Piece.{Piece}
 use Rattle.tk_raw.specs.declared.raw.RawItem.TheVariants as items
 use Rattle.tk_raw.specs.declared.raw.RawStmt.{RawStmt}
 use Rattle.tk_raw.specs.Heads.{head_text, form_of_head, head_named, own_head, head_or_call}
-use Rattle.tk_raw.specs.Pieces.{◌>>=◌, arguments_at, stmt_from, raw_stmt_at}
-use Rattle.tk_raw.specs.RawText.{piece_words, raw_stmt_words, FitsPieces, FitsItem}
+use Rattle.tk_raw.specs.Pieces.{arguments_at, stmt_from, raw_stmt_at}
+use Rattle.tk_raw.specs.RawText.{piece_words, raw_stmt_words, FitsItem}
 use Rattle.tk_types.proofs.CallNameLaws.{text_of_named}
 use Rattle.tk_raw.proofs.HeadLaws.{head_named_text}
 use Rattle.tk_raw.proofs.PieceLaws.{arguments_takes, arguments_again}
@@ -25,7 +23,7 @@ found : {X : Type 0} (test : X → Bool) (xs : List X) (y : X) → find test xs 
 found test [] y e = absurd (cc)
 found {X} test (x ∷ xs) y e =
     let by : ((test x ≡ true) × (Some x ≡ Some y)) ⊎ ((test x ≡ false) × (find test xs ≡ Some y)) → test y ≡ true = λ way. elim way as (λ _. test y ≡ true)
-        [ inl here ↦ subst (λ (z : X). test z ≡ true) (some_is x y here.1) here.0 | inr later ↦ found test xs y later.1 ]
+    [ inl here ↦ subst (λ (z : X). test z ≡ true) (some_is x y here.1) here.0 | inr later ↦ found test xs y later.1 ]
     in by (went (test x) (Some x) (find test xs) (Some y) e)
 
 own_takes : (word : List ℕ) (head : Head) → own_head word ≡ Some head → head_text head ≡ word

@@ -1,30 +1,28 @@
 -- A line that is read is the next line of what was read.
-use Rattle.std.proofs.Common.{◌≡◌, ◌∙◌, refl, sym, ap, subst, arith, inl, inr, ℕ, suc, ◌+◌, ◌<◌, ◌≤◌, Bool, true, false, not, cond, eqb, ltb, ◌&&◌, List, [], ◌∷◌, ◌++◌, length, length-append, append_assoc, map, Option, Some, None, Result, Ok, Err}
-use Rattle.std.specs.Prelude.{bytes_eq, codes, decimal, nat_lt, IfSome, ◌⊎◌}
-use Rattle.std.specs.List.{AllByRecursion, list_any}
+use Rattle.std.proofs.Common.{◌≡◌, ◌∙◌, refl, sym, ap, subst, arith, inl, inr, ℕ, suc, ◌<◌, ◌≤◌, true, false, not, cond, eqb, ◌&&◌, List, [], ◌∷◌, ◌++◌, length, length-append, map, Option, Some, None, Result, Ok}
+use Rattle.std.specs.Prelude.{bytes_eq, codes, nat_lt, ◌⊎◌}
+use Rattle.std.specs.List.{AllByRecursion}
 use Rattle.std.specs.Option.{is_some}
 use Rattle.std.proofs.lemmas.List.{append-nil}
 use Rattle.std.proofs.lemmas.Bool.{ltb-true, eqb-true}
 use Rattle.std.proofs.lemmas.Slice.Eq.{bytes_eq-Decides}
 use Rattle.tk_types.specs.declared.script.Device.{Device}
-use Rattle.tk_types.specs.declared.script.Interrupt.{Interrupt}
 use Rattle.tk_types.specs.declared.why.Why.{Why}
 use Rattle.tk_types.specs.declared.why.Why.TheVariants as whys
-use Rattle.tk_model.specs.ScriptText.{device_words, pace_lines, irq_words, body_kind_word, all_differ, IsBetween, IsName, IsDevice, StepsRise}
+use Rattle.tk_model.specs.ScriptText.{body_kind_word, all_differ, IsName, IsDevice}
 use Rattle.tk_raw.specs.declared.builder.Builder.{Builder}
 use Rattle.tk_raw.specs.declared.raw.RawBody.{RawBody}
 use Rattle.tk_raw.specs.declared.raw.RawBoot.{RawBoot}
 use Rattle.tk_raw.specs.declared.raw.RawItem.{RawItem}
 use Rattle.tk_raw.specs.declared.raw.RawItem.TheVariants as items
-use Rattle.tk_raw.specs.declared.raw.RawStmt.{RawStmt}
 use Rattle.tk_raw.specs.Pieces.{◌>>=◌, raw_stmt_at}
-use Rattle.tk_raw.specs.RawText.{raw_item_words, raw_stmt_words, open_body_lines, raw_body_lines, device_names, body_names, label_names, FitsItem, IsRawBody}
-use Rattle.tk_raw.specs.RawReading.{device_taken, body_taken, label_taken, is_label, device_at, pace_at, irq_at, boot_at, body_at, label_at, least_step, takes_device, takes_pace, takes_irq, takes_boot, takes_body, device_line, pace_line, irq_line, boot_line, body_line, end_line, label_line, stmt_line, outside, inside, with_item, step_in, without_current, step}
-use Rattle.tk_raw.proofs.Results.{bind_ok, fine, ok_is, passed, went, both_true, false_of_not, none_of, some_of}
+use Rattle.tk_raw.specs.RawText.{raw_item_words, open_body_lines, device_names, body_names, label_names, FitsItem, IsRawBody}
+use Rattle.tk_raw.specs.RawReading.{device_taken, body_taken, label_taken, is_label, device_at, pace_at, irq_at, boot_at, body_at, label_at, takes_device, takes_pace, takes_irq, takes_boot, takes_body, device_line, pace_line, irq_line, boot_line, body_line, end_line, label_line, stmt_line, outside, inside, with_item, step_in, without_current, step}
+use Rattle.tk_raw.proofs.Results.{bind_ok, fine, ok_is, passed, went, both_true, false_of_not, none_of}
 use Rattle.tk_raw.proofs.Differing.{among, differ_grown, steps_grown, least_is_last, last_step, all_grown, map_behind, any_mapped}
-use Rattle.tk_raw.proofs.HeaderLaws.{TakenDevice, device_takes, pace_takes, TakenIrq, irq_takes, IsBoot, boot_takes, TakenBody, body_takes, label_takes}
+use Rattle.tk_raw.proofs.HeaderLaws.{device_takes, pace_takes, irq_takes, boot_takes, body_takes, label_takes}
 use Rattle.tk_raw.proofs.StatementLaws.{statement_takes}
-use Rattle.tk_raw.proofs.Built.{Line, IsBuilt, InOrder, built_lines, built_names, opened, current_lines, current_names, device_grows, pace_grows, irq_grows, boot_grows, current_grows, item_grows, end_grows}
+use Rattle.tk_raw.proofs.Built.{Line, IsBuilt, InOrder, built_lines, built_names, opened, current_names, device_grows, pace_grows, irq_grows, boot_grows, current_grows, item_grows, end_grows}
 
 -- what a line makes of what was read: its next line
 pub record Grown (before : List Line) (line : Line) (new : Builder) : Type 0 where
@@ -61,7 +59,15 @@ device_grown b words new is e =
         few_devices = longer 8 b.devices d.0 (ltb-true (length b.devices) 8 v.1);
         devices = all_grown IsDevice b.devices d.0 is.devices taken.is;
         devices_differ = ap all_differ (map_behind (λ (x : Device). x.name) b.devices d.0) ∙ differ_grown (device_names b.devices) (d.0).name is.devices_differ new_one;
-        pace = is.pace; few_irqs = is.few_irqs; irqs = is.irqs; boot = is.boot; few_bodies = is.few_bodies; bodies_differ = is.bodies_differ; bodies = is.bodies; current = is.current; order = is.order;
+        pace = is.pace;
+        few_irqs = is.few_irqs;
+        irqs = is.irqs;
+        boot = is.boot;
+        few_bodies = is.few_bodies;
+        bodies_differ = is.bodies_differ;
+        bodies = is.bodies;
+        current = is.current;
+        order = is.order;
       };
       lines = device_grows b d.0 no_pace (empty_of b.irqs v.0) no_boot no_body.0 no_body.1 ∙ ap (λ (l : Line). built_lines b ++ l ∷ []) taken.spelled;
     })
@@ -80,9 +86,18 @@ pace_grown b words new is e =
     subst (Grown (built_lines b) (codes "pace" ∷ words)) (ok_is (record b { pace = Some d.0 }) new d.2)
     (record {
       built = record {
-        few_devices = is.few_devices; devices = is.devices; devices_differ = is.devices_differ;
+        few_devices = is.few_devices;
+        devices = is.devices;
+        devices_differ = is.devices_differ;
         pace = taken.1;
-        few_irqs = is.few_irqs; irqs = is.irqs; boot = is.boot; few_bodies = is.few_bodies; bodies_differ = is.bodies_differ; bodies = is.bodies; current = is.current; order = is.order;
+        few_irqs = is.few_irqs;
+        irqs = is.irqs;
+        boot = is.boot;
+        few_bodies = is.few_bodies;
+        bodies_differ = is.bodies_differ;
+        bodies = is.bodies;
+        current = is.current;
+        order = is.order;
       };
       lines = pace_grows b d.0 no_pace (empty_of b.irqs u.1) no_boot no_body.0 no_body.1 ∙ ap (λ (l : Line). built_lines b ++ (codes "pace" ∷ l) ∷ []) taken.0;
     })
@@ -100,10 +115,18 @@ irq_grown b words new is e =
     subst (Grown (built_lines b) (codes "irq" ∷ words)) (ok_is (record b { irqs = b.irqs ++ d.0 ∷ [] }) new d.2)
     (record {
       built = record {
-        few_devices = is.few_devices; devices = is.devices; devices_differ = is.devices_differ; pace = is.pace;
+        few_devices = is.few_devices;
+        devices = is.devices;
+        devices_differ = is.devices_differ;
+        pace = is.pace;
         few_irqs = longer 1024 b.irqs d.0 (ltb-true (length b.irqs) 1024 t.1);
         irqs = steps_grown 1 b.irqs d.0 is.irqs from taken.to taken.number;
-        boot = is.boot; few_bodies = is.few_bodies; bodies_differ = is.bodies_differ; bodies = is.bodies; current = is.current; order = is.order;
+        boot = is.boot;
+        few_bodies = is.few_bodies;
+        bodies_differ = is.bodies_differ;
+        bodies = is.bodies;
+        current = is.current;
+        order = is.order;
       };
       lines = irq_grows b d.0 no_boot no_body.0 no_body.1 ∙ ap (λ (l : Line). built_lines b ++ l ∷ []) taken.spelled;
     })
@@ -119,9 +142,18 @@ boot_grown b words new is e =
     subst (Grown (built_lines b) (codes "boot" ∷ words)) (ok_is (record b { boot = Some d.0 }) new d.2)
     (record {
       built = record {
-        few_devices = is.few_devices; devices = is.devices; devices_differ = is.devices_differ; pace = is.pace; few_irqs = is.few_irqs; irqs = is.irqs;
+        few_devices = is.few_devices;
+        devices = is.devices;
+        devices_differ = is.devices_differ;
+        pace = is.pace;
+        few_irqs = is.few_irqs;
+        irqs = is.irqs;
         boot = taken.1;
-        few_bodies = is.few_bodies; bodies_differ = is.bodies_differ; bodies = is.bodies; current = is.current; order = tt;
+        few_bodies = is.few_bodies;
+        bodies_differ = is.bodies_differ;
+        bodies = is.bodies;
+        current = is.current;
+        order = tt;
       };
       lines = boot_grows b d.0 no_boot no_body.0 no_body.1 ∙ ap (λ (l : Line). built_lines b ++ l ∷ []) taken.0;
     })
@@ -164,7 +196,13 @@ body_grown b words new is closed e =
     subst (Grown (built_lines b) (codes "body" ∷ words)) (ok_is (record b { current = Some d.0 }) new d.2)
     (record {
       built = record {
-        few_devices = is.few_devices; devices = is.devices; devices_differ = is.devices_differ; pace = is.pace; few_irqs = is.few_irqs; irqs = is.irqs; boot = is.boot;
+        few_devices = is.few_devices;
+        devices = is.devices;
+        devices_differ = is.devices_differ;
+        pace = is.pace;
+        few_irqs = is.few_irqs;
+        irqs = is.irqs;
+        boot = is.boot;
         few_bodies = longer 255 (body_names b.bodies) (d.0).name (subst (λ (n : ℕ). n < 255) (sym (names_of b.bodies)) few);
         bodies_differ = differ_grown (body_names b.bodies) (d.0).name differ new_one;
         bodies = is.bodies;
@@ -178,7 +216,7 @@ body_grown b words new is closed e =
 by_first : (P : List ℕ → Type 0) (first text : List ℕ) (here rest : Result Builder Why) (new : Builder) → (here ≡ Ok new → P text) → (rest ≡ Ok new → P first) → cond (bytes_eq first text) here rest ≡ Ok new → P first
 by_first P first text here rest new is later e =
     let by : ((bytes_eq first text ≡ true) × (here ≡ Ok new)) ⊎ ((bytes_eq first text ≡ false) × (rest ≡ Ok new)) → P first = λ way. elim way as (λ _. P first)
-        [ inl one ↦ subst P (sym ((bytes_eq-Decides first text).0 one.0)) (is one.1) | inr other ↦ later other.1 ]
+    [ inl one ↦ subst P (sym ((bytes_eq-Decides first text).0 one.0)) (is one.1) | inr other ↦ later other.1 ]
     in by (went (bytes_eq first text) here rest (Ok new) e)
 
 outside_grown : (b : Builder) (first : List ℕ) (words : Line) (new : Builder) → IsBuilt b → b.current ≡ None → outside b first words ≡ Ok new → Grown (built_lines b) (first ∷ words) new
@@ -198,7 +236,13 @@ end_grown b body [] new is e =
     subst (Grown (built_lines (opened b body)) (codes "end" ∷ [])) (ok_is (record b { bodies = b.bodies ++ body ∷ []; current = None }) new e)
     (record {
       built = record {
-        few_devices = is.few_devices; devices = is.devices; devices_differ = is.devices_differ; pace = is.pace; few_irqs = is.few_irqs; irqs = is.irqs; boot = is.boot;
+        few_devices = is.few_devices;
+        devices = is.devices;
+        devices_differ = is.devices_differ;
+        pace = is.pace;
+        few_irqs = is.few_irqs;
+        irqs = is.irqs;
+        boot = is.boot;
         few_bodies = subst (λ (ns : List (List ℕ)). length ns ≤ 255) (sym names) is.few_bodies;
         bodies_differ = ap all_differ names ∙ is.bodies_differ;
         bodies = all_grown IsRawBody b.bodies body is.bodies is.current;
@@ -207,7 +251,7 @@ end_grown b body [] new is e =
       };
       lines = end_grows b body;
     })
-    where
+  where
     ended_in_order : (o : Option RawBoot) → InOrder o b.bodies (Some body) → InOrder o (b.bodies ++ body ∷ []) None
     ended_in_order None order = absurd (let bad = order.1 in cc)
     ended_in_order (Some boot) order = tt
@@ -229,14 +273,22 @@ taken_among (items.Stmt stmt ∷ lines) word = taken_among lines word
 with_one : (b : Builder) (body : RawBody) (item : RawItem) (line : Line) → IsBuilt (opened b body) → FitsItem item → all_differ (label_names (body.items ++ item ∷ [])) ≡ true → raw_item_words item ≡ line → Grown (built_lines (opened b body)) line (opened b (with_item body item))
 with_one b body item line is fits differ spelled = record {
   built = record {
-    few_devices = is.few_devices; devices = is.devices; devices_differ = is.devices_differ; pace = is.pace; few_irqs = is.few_irqs; irqs = is.irqs; boot = is.boot;
-    few_bodies = is.few_bodies; bodies_differ = is.bodies_differ; bodies = is.bodies;
+    few_devices = is.few_devices;
+    devices = is.devices;
+    devices_differ = is.devices_differ;
+    pace = is.pace;
+    few_irqs = is.few_irqs;
+    irqs = is.irqs;
+    boot = is.boot;
+    few_bodies = is.few_bodies;
+    bodies_differ = is.bodies_differ;
+    bodies = is.bodies;
     current = record { name = (is.current).name; labels_differ = differ; items = all_grown FitsItem body.items item (is.current).items fits };
     order = still b.boot is.order;
   };
   lines = current_grows b (Some body) (Some (with_item body item)) line (item_grows body item ∙ ap (λ (l : Line). open_body_lines body ++ l ∷ []) spelled);
 }
-    where
+  where
     still : (o : Option RawBoot) → InOrder o b.bodies (Some body) → InOrder o b.bodies (Some (with_item body item))
     still None order = absurd (let bad = order.1 in cc)
     still (Some boot) order = tt

@@ -1,6 +1,6 @@
 -- The lines of a script are read as that script.
-use Rattle.std.proofs.Common.{◌≡◌, ◌∙◌, refl, sym, ap, subst, arith, inl, inr, ℕ, suc, ◌+◌, ◌<◌, ◌≤◌, Bool, true, false, not, cond, eqb, ltb, ◌&&◌, List, [], ◌∷◌, ◌++◌, length, length-append, append_assoc, map, Option, Some, None, Result, Ok, Err}
-use Rattle.std.specs.Prelude.{bytes_eq, codes, decimal, nat_lt, IfSome, flat_map}
+use Rattle.std.proofs.Common.{◌≡◌, ◌∙◌, refl, sym, ap, subst, arith, ℕ, ◌<◌, ◌≤◌, true, false, List, [], ◌∷◌, ◌++◌, length, length-append, append_assoc, map, Option, Some, None, Result, Ok, Err}
+use Rattle.std.specs.Prelude.{codes, decimal, IfSome, flat_map}
 use Rattle.std.specs.List.{AllByRecursion}
 use Rattle.std.proofs.lemmas.List.{append-nil}
 use Rattle.std.proofs.lemmas.Bool.{lt-ltb}
@@ -18,15 +18,15 @@ use Rattle.tk_raw.specs.declared.raw.RawItem.TheVariants as items
 use Rattle.tk_raw.specs.declared.raw.RawScript.{RawScript}
 use Rattle.tk_raw.specs.declared.raw.RawStmt.{RawStmt}
 use Rattle.tk_raw.specs.Heads.{head_text, form_of_head}
-use Rattle.tk_raw.specs.Pieces.{◌>>=◌, raw_stmt_at}
+use Rattle.tk_raw.specs.Pieces.{◌>>=◌}
 use Rattle.tk_raw.specs.RawText.{raw_item_words, raw_stmt_words, open_body_lines, raw_body_lines, raw_boot_words, raw_lines, piece_words, device_names, body_names, label_names, FitsItem, IsRawBody, IsRaw}
-use Rattle.tk_raw.specs.RawReading.{nothing, device_taken, body_taken, label_taken, device_at, pace_at, irq_at, boot_at, body_at, label_at, least_step, takes_device, takes_pace, takes_irq, takes_boot, takes_body, device_line, pace_line, irq_line, boot_line, body_line, end_line, label_line, stmt_line, outside, inside, with_item, step_in, without_current, step}
+use Rattle.tk_raw.specs.RawReading.{nothing, device_taken, body_taken, label_taken, takes_device, takes_pace, takes_irq, takes_boot, takes_body, device_line, pace_line, irq_line, boot_line, body_line, end_line, label_line, stmt_line, outside, inside, step}
 use Rattle.tk_raw.proofs.Results.{fine}
-use Rattle.tk_raw.proofs.Differing.{among, differ_before, steps_before, least_is_last, last_step, map_behind, any_mapped}
+use Rattle.tk_raw.proofs.Differing.{among, differ_before, steps_before, least_is_last, last_step, any_mapped}
 use Rattle.tk_raw.proofs.HeadLaws.{head_is_not_end, head_is_not_label}
 use Rattle.tk_raw.proofs.HeaderLaws.{device_again, pace_again, irq_again, IsBoot, boot_again, body_again, label_again}
 use Rattle.tk_raw.proofs.StatementLaws.{statement_again}
-use Rattle.tk_raw.proofs.StepTakes.{label_names_behind, taken_among, names_of}
+use Rattle.tk_raw.proofs.StepTakes.{label_names_behind, taken_among}
 use Rattle.tk_raw.proofs.Built.{Line, made}
 
 -- one line after another

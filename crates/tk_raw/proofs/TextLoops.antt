@@ -1,5 +1,5 @@
 -- The lines of a text, one by one.
-use Rattle.std.proofs.Common.{◌≡◌, ◌≢◌, ◌∙◌, sym, ap, subst, refl, arith, ℕ, ◌+◌, ◌<◌, ◌≤◌, Bool, true, false, not, cond, eqb, List, [], ◌∷◌, length, Option, Some, None, Result, Ok, Err}
+use Rattle.std.proofs.Common.{◌≡◌, ◌≢◌, ◌∙◌, sym, ap, subst, refl, arith, ℕ, ◌+◌, ◌<◌, ◌≤◌, Bool, true, false, cond, eqb, List, [], ◌∷◌, length, Option, Some, None, Result, Ok, Err}
 use Rattle.std.specs.List.{slice_split, onto_first}
 use Rattle.std.proofs.lemmas.Bool.Decides.{nat_tests}
 use Rattle.tk_types.specs.declared.why.Why.{Why}
@@ -7,7 +7,7 @@ use Rattle.tk_text.specs.Tokens.{parts_left, room_left}
 use Rattle.tk_model.specs.Words.{parts_of, is_word}
 use Rattle.tk_raw.specs.Lines.{text_lines, whole_lines}
 use Rattle.tk_types.specs.declared.why.Why.TheVariants.{Head}
-use Rattle.tk_raw.specs.RawReading.{Refusal, then_read, head_line, read_line, read_lines, read_all, raw_reading, ended}
+use Rattle.tk_raw.specs.RawReading.{Refusal, then_read, head_line, read_line, read_lines, read_all, raw_reading}
 use Rattle.tk_raw.specs.Gives.{Gives, GivesText}
 use Rattle.tk_raw.specs.TextLoops.{text_behind, in_line}
 use Rattle.tk_raw.specs.declared.builder.Reached.{Reached}

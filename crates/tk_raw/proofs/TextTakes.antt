@@ -1,29 +1,26 @@
 -- What is read of a text is what the text spells.
-use Rattle.std.proofs.Common.{◌≡◌, ◌∙◌, refl, sym, ap, subst, arith, ℕ, suc, ◌+◌, ◌<◌, ◌≤◌, Bool, true, false, not, cond, eqb, ltb, ◌&&◌, List, [], ◌∷◌, ◌++◌, length, length-append, append_assoc, map, Option, Some, None, Result, Ok, Err}
+use Rattle.std.proofs.Common.{◌≡◌, ◌∙◌, refl, sym, ap, subst, arith, ℕ, suc, ◌+◌, ◌≤◌, Bool, true, false, cond, eqb, ltb, List, [], ◌∷◌, ◌++◌, length, append_assoc, Option, Some, None, Result, Ok, Err}
 use Rattle.std.specs.Prelude.{bytes_eq, codes, nat_lt, IfSome, flat_map, if◌then◌else◌}
 use Rattle.std.specs.List.{AllByRecursion}
 use Rattle.std.specs.Option.{is_some}
 use Rattle.std.proofs.lemmas.List.{append-nil}
 use Rattle.std.proofs.lemmas.Bool.Decides.{nat_tests}
 use Rattle.std.proofs.lemmas.Slice.Eq.{bytes_eq-Decides}
-use Rattle.tk_types.specs.declared.script.Device.{Device}
-use Rattle.tk_types.specs.declared.script.Interrupt.{Interrupt}
 use Rattle.tk_types.specs.declared.why.Why.{Why}
 use Rattle.tk_types.specs.declared.why.Why.TheVariants as whys
 use Rattle.tk_model.specs.Words.{words_of, line_fault}
-use Rattle.tk_model.specs.ScriptText.{head_words, device_words, pace_lines, irq_words, all_differ, IsBetween, StepsRise}
+use Rattle.tk_model.specs.ScriptText.{head_words, all_differ, StepsRise}
 use Rattle.tk_raw.specs.declared.builder.Builder.{Builder}
 use Rattle.tk_raw.specs.declared.builder.Reached.{Reached}
-use Rattle.tk_raw.specs.declared.raw.RawBody.{RawBody}
 use Rattle.tk_raw.specs.declared.raw.RawBoot.{RawBoot}
 use Rattle.tk_raw.specs.declared.raw.RawScript.{RawScript}
 use Rattle.tk_raw.specs.Pieces.{◌>>=◌}
 use Rattle.tk_raw.specs.Lines.{text_lines, begins_note, is_kept, kept_behind, numbers_behind, kept_from, numbers_from, IsCleanLine}
-use Rattle.tk_raw.specs.RawText.{raw_body_lines, raw_boot_words, raw_lines, body_names, IsRaw}
+use Rattle.tk_raw.specs.RawText.{raw_body_lines, raw_lines, IsRaw}
 use Rattle.tk_raw.specs.RawReading.{Refusal, step, words_line, clean, read_line, is_head, nothing, no_lines, head_line, script_of, script_with, ended, then_read, read_lines, read_all, raw_reading}
 use Rattle.tk_raw.specs.Spelling.{SpellsRaw}
 use Rattle.tk_raw.proofs.Results.{bind_ok, fine, ok_is, passed, not_failed, both_true, none_of}
-use Rattle.tk_raw.proofs.Built.{Line, IsBuilt, built_lines, built_names, made}
+use Rattle.tk_raw.proofs.Built.{Line, IsBuilt, built_lines}
 use Rattle.tk_raw.proofs.HeaderLaws.{IsBoot}
 use Rattle.tk_raw.proofs.StepTakes.{step_takes, closed_names, names_of}
 use Rattle.tk_raw.proofs.StepsAgain.{steps, one_more}
@@ -62,9 +59,10 @@ word_adds number reached next first words rows numbers last true e read =
     (ap (λ (r : Reached). steps r.builder rows) same ∙ read, ap (λ (r : Reached). r.lines ++ numbers) same)
 word_adds number reached next first words rows numbers last false e read =
     let d = bind_ok (step reached.builder first words) (λ b. fine (record { builder = b; lines = reached.lines ++ number ∷ [] })) next e in
-    let same = ok_is (record { builder = d.0; lines = reached.lines ++ number ∷ [] }) next d.2 in
-    (one_more reached.builder d.0 first words rows d.1 ∙ (ap (λ (r : Reached). steps r.builder rows) same ∙ read),
-     sym (append_assoc reached.lines (number ∷ []) numbers) ∙ ap (λ (r : Reached). r.lines ++ numbers) same)
+    let same = ok_is (record { builder = d.0; lines = reached.lines ++ number ∷ [] }) next d.2 in (
+      one_more reached.builder d.0 first words rows d.1 ∙ (ap (λ (r : Reached). steps r.builder rows) same ∙ read),
+      sym (append_assoc reached.lines (number ∷ []) numbers) ∙ ap (λ (r : Reached). r.lines ++ numbers) same,
+    )
 
 line_adds : (number : ℕ) (reached next : Reached) (words : Line) (rows : List Line) (numbers : List ℕ) (last : Builder) → words_line number reached words ≡ Ok next → steps next.builder rows ≡ Ok last → AddsLine number reached next words rows numbers last (is_kept words)
 unfolding words_line is_kept
@@ -136,8 +134,18 @@ as_many_numbers number (line ∷ lines) =
 built_nothing : IsBuilt nothing
 unfolding StepsRise all_differ
 built_nothing = record {
-  few_devices = omega arith; devices = tt; devices_differ = refl; pace = tt; few_irqs = omega arith; irqs = omega arith; boot = tt;
-  few_bodies = omega arith; bodies_differ = refl; bodies = tt; current = tt; order = (refl, refl);
+  few_devices = omega arith;
+  devices = tt;
+  devices_differ = refl;
+  pace = tt;
+  few_irqs = omega arith;
+  irqs = omega arith;
+  boot = tt;
+  few_bodies = omega arith;
+  bodies_differ = refl;
+  bodies = tt;
+  current = tt;
+  order = (refl, refl);
 }
 
 -- the lines of what was read in the end
@@ -151,8 +159,14 @@ whole_script b boot numbers is with_boot closed some numbered =
     let names = closed_names b closed in
     let few : length b.bodies ≤ 255 = subst (λ (n : ℕ). n ≤ 255) (ap (λ (ns : List (List ℕ)). length ns) names ∙ names_of b.bodies) is.few_bodies in
     record {
-      few_devices = is.few_devices; devices = is.devices; devices_differ = is.devices_differ; pace = is.pace; few_irqs = is.few_irqs; irqs = is.irqs;
-      boot_body = boot_is.0; boot_priority = boot_is.1;
+      few_devices = is.few_devices;
+      devices = is.devices;
+      devices_differ = is.devices_differ;
+      pace = is.pace;
+      few_irqs = is.few_irqs;
+      irqs = is.irqs;
+      boot_body = boot_is.0;
+      boot_priority = boot_is.1;
       few_bodies = (some, few);
       bodies_differ = ap all_differ (sym names) ∙ is.bodies_differ;
       bodies = is.bodies;

@@ -1,23 +1,20 @@
 -- Numbers, registers, names and lists: what is read of a word is spelled so, and each is read as itself.
-use Rattle.std.proofs.Common.{◌≡◌, ◌∙◌, refl, sym, ap, subst, arith, inl, inr, ℕ, zero, suc, ◌+◌, ◌<◌, ◌≤◌, ◌^◌, Bool, true, false, not, cond, eqb, ltb, leb, ◌&&◌, List, [], ◌∷◌, length, map, Option, Some, None, Result, Ok, Err}
-use Rattle.std.specs.Prelude.{ℤ, decimal, bytes_eq, nat_le, nat_lt, slice_index, ◌⊎◌}
+use Rattle.std.proofs.Common.{◌≡◌, ◌∙◌, refl, sym, ap, subst, arith, ℕ, zero, suc, ◌<◌, ◌≤◌, ◌^◌, Bool, true, false, not, eqb, ◌&&◌, List, [], ◌∷◌, length, Option, Some, None, Ok}
+use Rattle.std.specs.Prelude.{decimal, bytes_eq, nat_le, nat_lt, slice_index}
 use Rattle.std.specs.Char.{is_ascii_lowercase}
-use Rattle.std.specs.Fmt.{signed_decimal, digits}
-use Rattle.std.specs.Int.{w32}
-use Rattle.std.specs.Int.RustNames.{FitsSigned}
+use Rattle.std.specs.Fmt.{digits}
 use Rattle.std.specs.List.{list_all}
 use Rattle.std.specs.Option.{is_some}
 use Rattle.std.proofs.lemmas.Bool.{ltb-true, leb-true, eqb-true, lt-ltb, le-leb}
 use Rattle.std.proofs.lemmas.Bool.Decides.{nat_tests}
 use Rattle.std.proofs.lemmas.Slice.Eq.{bytes_eq-Decides}
 use Rattle.tk_types.specs.Names.{name_at_most, is_name_byte}
-use Rattle.tk_types.specs.declared.why.Why.{Why}
 use Rattle.tk_types.specs.declared.why.Why.TheVariants as whys
 use Rattle.tk_model.specs.Decimals.{number_at, natural_at, fits_i32}
-use Rattle.tk_model.specs.ScriptText.{dash, register_word, IsBetween, IsName}
-use Rattle.tk_text.proofs.Decimals.{natural_at_some, natural_at_again, number_at_some, number_at_again}
+use Rattle.tk_model.specs.ScriptText.{dash, register_word, IsName}
+use Rattle.tk_text.proofs.Decimals.{natural_at_some, natural_at_again}
 use Rattle.tk_raw.specs.Pieces.{below_sixteen, register_at, number_from, number_between, name_at, short_name_at}
-use Rattle.tk_raw.proofs.Results.{passed, some_passed, ok_is, some_is, both_true, both, false_of_not, false_unless, none_of}
+use Rattle.tk_raw.proofs.Results.{passed, some_passed, ok_is, some_is, both_true, false_of_not, false_unless, none_of}
 
 below_takes : (read : Option ℕ) (n : ℕ) → below_sixteen read ≡ Some n → (read ≡ Some n) × (n < 16)
 below_takes None n e = absurd (cc)

@@ -1,5 +1,5 @@
 -- How a text is read line by line, as a script whose names aren't resolved yet, or as the first line that is wrong.
-use Rattle.std.specs.Prelude.{ℕ, ◌+◌, ◌-◌, Bool, true, false, not, nat_lt, nat_le, ◌==◌, ◌&&◌, if◌then◌else◌, List, [], ◌∷◌, ◌++◌, map, length, Option, Some, None, Result, Ok, Err, codes, slice_get}
+use Rattle.std.specs.Prelude.{ℕ, ◌+◌, ◌-◌, Bool, false, not, nat_lt, ◌==◌, ◌&&◌, if◌then◌else◌, List, [], ◌∷◌, ◌++◌, length, Option, Some, None, Result, Ok, Err, codes, slice_get}
 use Rattle.std.specs.List.{list_any}
 use Rattle.std.specs.Option.{is_some}
 use Rattle.std.specs.Str.{bytes_eq}
@@ -13,7 +13,7 @@ use Rattle.tk_types.specs.declared.why.Why.{Why}
 use Rattle.tk_types.specs.declared.why.Why.TheVariants as whys
 use Rattle.tk_model.specs.Words.{words_of, line_fault}
 use Rattle.tk_raw.specs.Lines.{text_lines, begins_note}
-use Rattle.tk_raw.specs.Pieces.{◌>>=◌, tested, name_at, short_name_at, number_between, raw_stmt_at}
+use Rattle.tk_raw.specs.Pieces.{◌>>=◌, name_at, short_name_at, number_between, raw_stmt_at}
 use Rattle.tk_raw.specs.declared.builder.Builder.{Builder}
 use Rattle.tk_raw.specs.declared.builder.Reached.{Reached}
 use Rattle.tk_raw.specs.declared.builder.UnitWord.{UnitWord}
@@ -96,7 +96,7 @@ new_device_name devices word = do
 unfoldable pub device_from : List Device → List ℕ → UnitWord → List (List ℕ) → Result Device Why
 device_from devices word unit numbers =
     if length numbers == unit_count unit then
-        (new_device_name devices word >>= λ name. unit_at unit numbers >>= λ kind. Ok (record { name = name; kind = kind }))
+    (new_device_name devices word >>= λ name. unit_at unit numbers >>= λ kind. Ok (record { name = name; kind = kind }))
     else Err whys.Count
 
 unfoldable pub device_at : List Device → List (List ℕ) → Result Device Why
@@ -178,7 +178,7 @@ takes_body builder = is_some builder.boot && nat_lt (length builder.bodies) 255
 unfoldable pub device_line : Builder → List (List ℕ) → Result Builder Why
 device_line builder words =
     if takes_device builder then
-        (device_at builder.devices words >>= λ device. Ok (record builder { devices = builder.devices ++ device ∷ [] }))
+    (device_at builder.devices words >>= λ device. Ok (record builder { devices = builder.devices ++ device ∷ [] }))
     else Err whys.Order
 
 unfoldable pub pace_line : Builder → List (List ℕ) → Result Builder Why
@@ -188,7 +188,7 @@ pace_line builder words =
 unfoldable pub irq_line : Builder → List (List ℕ) → Result Builder Why
 irq_line builder words =
     if takes_irq builder then
-        (irq_at builder.irqs words >>= λ irq. Ok (record builder { irqs = builder.irqs ++ irq ∷ [] }))
+    (irq_at builder.irqs words >>= λ irq. Ok (record builder { irqs = builder.irqs ++ irq ∷ [] }))
     else Err whys.Order
 
 unfoldable pub boot_line : Builder → List (List ℕ) → Result Builder Why
