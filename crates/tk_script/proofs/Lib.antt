@@ -1,5 +1,11 @@
-pub mod LineLoops
 pub mod Appends
-pub mod Taken
 pub mod Items
+pub mod Loops
+pub mod BuiltLoops
+pub mod NameLaws
+pub mod ArgumentLaws
+pub mod StatementLaws
+pub mod Weaving
+pub mod BodyLaws
+pub mod ScriptLaws
 pub mod Readings

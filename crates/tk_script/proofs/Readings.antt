@@ -1,20 +1,126 @@
--- What is answered, by what a text spells.
-use Rattle.std.proofs.Common.{◌≡◌, ◌∙◌, sym, ap, ℕ, List, Option, Some, None, Result, Ok, Err, IfOk}
+-- What is read of a text is what the text spells.
+use Rattle.std.specs.Prelude.{◌↔◌}
+use Rattle.std.proofs.Common.{◌≡◌, ◌∙◌, sym, ap, subst, refl, ℕ, ◌+◌, ◌≤◌, List, [], ◌∷◌, length, Option, Some, None, Result, Ok, Err, IfOk}
 use Rattle.tk_types.specs.declared.memory.OutOfMemory.{OutOfMemory}
 use Rattle.tk_types.specs.declared.script.Script.{Script}
 use Rattle.tk_types.specs.declared.script.Reading.{Reading}
 use Rattle.tk_types.specs.declared.script.Reading.TheVariants as readings
-use Rattle.tk_model.specs.ScriptReading.{SpellsFirst, answer_first, reading_first}
-use Rattle.tk_model.proofs.ReadingLaws.{reading_takes, reading_again}
+use Rattle.tk_model.specs.TextLines.{kept_behind, kept_from, kept_lines, kept_numbers, numbers_behind, numbers_from, text_lines}
+use Rattle.tk_model.specs.ScriptText.{head_words, printed_lines, IsScript, Spells}
+use Rattle.tk_raw.specs.RawReading.{Refusal, raw_reading}
+use Rattle.tk_raw.specs.RawText.{raw_lines, IsRaw}
+use Rattle.tk_raw.specs.Spelling.{SpellsRaw}
+use Rattle.tk_raw.specs.declared.raw.RawScript.{RawScript}
+use Rattle.tk_raw.proofs.TextTakes.{as_many_numbers, raw_takes}
+use Rattle.tk_raw.proofs.TextAgain.{raw_again}
+use Rattle.tk_script.specs.Resolving.{◌>>=◌, resolved}
+use Rattle.tk_script.specs.Reading.{answer, reading}
+use Rattle.tk_script.specs.Built.{first_unbuilt, reading_built, resolved_built, when_built}
+use Rattle.tk_types.specs.declared.why.Why.TheVariants.{Later}
+use Rattle.tk_script.proofs.ArgumentLaws.{bind_ok}
+use Rattle.tk_script.proofs.Weaving.{sure, sure_is}
+use Rattle.tk_script.proofs.ScriptLaws.{TakenScript, script_takes, Text, ScriptText, script_again}
 
-answer_some : (read : Option Script) (script : Script) → answer_first read ≡ readings.Script script → read ≡ Some script
-answer_some None script e = absurd (cc)
-answer_some (Some other) script e = cc
+pub reading_takes : (text : List ℕ) (script : Script) → reading text ≡ Ok script → Spells text script
+unfolding reading
+reading_takes text script e =
+    let b = bind_ok (raw_reading text) resolved script e in
+    let raw = raw_takes text b.0 b.1 in
+    let taken = script_takes b.0 script raw.script b.2 in
+    record { short = raw.short; clean = raw.clean; lines = raw.lines ∙ sym taken.lines; script_is = taken.is }
 
-pub reading_found : (text : List ℕ) (result : Result Reading OutOfMemory) → IfOk result (λ reading. reading ≡ answer_first (reading_first text)) → IfOk result (λ reading. (script : Script) → reading ≡ readings.Script script → SpellsFirst text script)
-reading_found text (Ok reading) exact = λ script e. reading_takes text script (answer_some (reading_first text) script (sym exact ∙ e))
+as_many : (lines : List (List ℕ)) (first : List (List ℕ)) (rest : List (List (List ℕ))) → kept_from lines ≡ first ∷ rest → length (numbers_from lines) ≡ length rest
+unfolding kept_from numbers_from
+as_many [] first rest e = absurd (cc)
+as_many (head ∷ lines) first rest e =
+    let same : kept_behind lines ≡ rest = cc in
+    as_many_numbers 2 lines ∙ ap (λ (ls : List (List (List ℕ))). length ls) same
+
+pub reading_again : (text : List ℕ) (script : Script) → Spells text script → reading text ≡ Ok script
+unfolding reading
+reading_again text script spells =
+    let written = script_again script (kept_numbers text) spells.script_is in
+    let lines : kept_lines text ≡ head_words ∷ raw_lines written.raw = spells.lines ∙ written.text.lines in
+    let numbered : length (kept_numbers text) ≡ length (raw_lines written.raw) = as_many (text_lines text) head_words (raw_lines written.raw) lines in
+    let raw : SpellsRaw text written.raw = record { short = spells.short; clean = spells.clean; lines = lines; numbers = written.text.numbers_are; script = written.text.is numbered } in
+    ap (λ o. o >>= resolved) (raw_again text written.raw raw) ∙ written.text.found
+
+pub reading_is : (text : List ℕ) (script : Script) → (reading text ≡ Ok script) ↔ Spells text script
+reading_is text script = (reading_takes text script, reading_again text script)
+
+-- no text spells two scripts
+pub spells_one : (text : List ℕ) (one other : Script) → Spells text one → Spells text other → one ≡ other
+spells_one text one other first second = sure_is one other (sym (reading_again text one first) ∙ reading_again text other second)
+
+answer_ok : (read : Result Script Refusal) (script : Script) → answer read ≡ readings.Script script → read ≡ Ok script
+answer_ok (Err refusal) script e = absurd (cc)
+answer_ok (Ok other) script e = cc
+
+pub reading_found : (text : List ℕ) (result : Result Reading OutOfMemory) → IfOk result (λ read. read ≡ answer (reading text)) → IfOk result (λ read. (script : Script) → read ≡ readings.Script script → Spells text script)
+reading_found text (Ok read) exact = λ script e. reading_takes text script (answer_ok (reading text) script (sym exact ∙ e))
 reading_found text (Err error) exact = tt
 
-pub reading_only : (text : List ℕ) (result : Result Reading OutOfMemory) → IfOk result (λ reading. reading ≡ answer_first (reading_first text)) → (script : Script) → SpellsFirst text script → IfOk result (λ reading. reading ≡ readings.Script script)
-reading_only text (Ok reading) exact script spells = exact ∙ ap answer_first (reading_again text script spells)
+pub reading_only : (text : List ℕ) (result : Result Reading OutOfMemory) → IfOk result (λ read. read ≡ answer (reading text)) → (script : Script) → Spells text script → IfOk result (λ read. read ≡ readings.Script script)
+reading_only text (Ok read) exact script spells = exact ∙ ap answer (reading_again text script spells)
 reading_only text (Err error) exact script spells = tt
+
+-- ---- refusals
+
+pub never_refused : (text : List ℕ) (script : Script) (refusal : Refusal) → Spells text script → reading text ≡ Err refusal → ⊥
+never_refused text script refusal spells e = let found = reading_again text script spells in cc
+
+refusal_of : (read : Result Script Refusal) → ((script : Script) → read ≡ Ok script → ⊥) → (refusal : Refusal) × (read ≡ Err refusal)
+refusal_of (Ok script) never = absurd (never script refl)
+refusal_of (Err refusal) never = (refusal, refl)
+
+pub else_refused : (text : List ℕ) → ((script : Script) → Spells text script → ⊥) → (refusal : Refusal) × (reading text ≡ Err refusal)
+else_refused text never = refusal_of (reading text) (λ script e. never script (reading_takes text script e))
+
+-- ---- what is built
+
+built_is : (line : Option ℕ) (script other : Script) → when_built line script ≡ Ok other → sure script ≡ Ok other
+built_is None script other e = e
+built_is (Some line) script other e = absurd (cc)
+
+-- the second pass, and then what is built
+in_two : (text : List ℕ) (raw : Result RawScript Refusal) (script : Script) → (raw >>= resolved_built) ≡ Ok script → (raw >>= resolved) ≡ Ok script
+unfolding resolved_built
+in_two text (Err refusal) script e = absurd (cc)
+in_two text (Ok raw) script e =
+    let b = bind_ok (resolved raw) (when_built (first_unbuilt raw)) script e in
+    b.1 ∙ built_is (first_unbuilt raw) b.0 script b.2
+
+pub built_found : (text : List ℕ) (script : Script) → reading_built text ≡ Ok script → Spells text script
+unfolding reading_built reading
+built_found text script e = reading_takes text script (in_two text (raw_reading text) script e)
+
+bind_err : {A B : Type 0} (read : Result A Refusal) (next : A → Result B Refusal) (refusal : Refusal) → read ≡ Err refusal → (read >>= next) ≡ Err refusal
+bind_err (Ok x) next refusal e = absurd (cc)
+bind_err (Err other) next refusal e = cc
+
+refused_in_two : (raw : Result RawScript Refusal) (refusal : Refusal) → (raw >>= resolved) ≡ Err refusal → (raw >>= resolved_built) ≡ Err refusal
+unfolding resolved_built
+refused_in_two (Err other) refusal e = cc
+refused_in_two (Ok raw) refusal e = bind_err (resolved raw) (when_built (first_unbuilt raw)) refusal e
+
+pub refused_first : (text : List ℕ) (refusal : Refusal) → reading text ≡ Err refusal → reading_built text ≡ Err refusal
+unfolding reading_built reading
+refused_first text refusal e = refused_in_two (raw_reading text) refusal e
+
+later_only : (line : Option ℕ) (script : Script) (refusal : Refusal) → when_built line script ≡ Err refusal → refusal.1 ≡ Later
+later_only None script refusal e = absurd (cc)
+later_only (Some line) script refusal e = let same : (line, Later) ≡ refusal = cc in sym (ap (λ (r : Refusal). r.1) same)
+
+later_in_two : (raw : Result RawScript Refusal) (script : Script) (refusal : Refusal) → (raw >>= resolved) ≡ Ok script → (raw >>= resolved_built) ≡ Err refusal → refusal.1 ≡ Later
+unfolding resolved_built
+later_in_two (Err other) script refusal found e = absurd (cc)
+later_in_two (Ok raw) script refusal found e =
+    later_only (first_unbuilt raw) script refusal (sym (ap (λ o. o >>= when_built (first_unbuilt raw)) found) ∙ e)
+
+pub refused_later : (text : List ℕ) (script : Script) (refusal : Refusal) → Spells text script → reading_built text ≡ Err refusal → refusal.1 ≡ Later
+unfolding reading_built reading
+refused_later text script refusal spells e = later_in_two (raw_reading text) script refusal (reading_again text script spells) e
+
+pub found_built : (text : List ℕ) (result : Result Reading OutOfMemory) → IfOk result (λ read. read ≡ answer (reading_built text)) → IfOk result (λ read. (script : Script) → read ≡ readings.Script script → Spells text script)
+found_built text (Ok read) exact = λ script e. built_found text script (answer_ok (reading_built text) script (sym exact ∙ e))
+found_built text (Err error) exact = tt

@@ -1,22 +1,25 @@
 //! Scripts as texts: reading them and printing them.
 #![tactic(auto)]
 
-mod bodies;
+mod built;
 mod errors;
-mod header;
 pub mod laws;
+mod lines;
+mod names;
+mod numbers;
 mod print_lines;
 mod print_statement;
 mod put;
 mod read;
-mod reading;
-mod statements;
-#[cfg(test)]
-mod tests;
-mod words;
+mod resolving;
 
 pub use print_lines::print_script;
-pub use read::read_script;
+
+#[cfg(test)]
+mod tests;
+
+pub use built::first_unbuilt;
+pub use read::{read_built_script, read_script};
 pub use tk_types::{
     Arg, Body, BodyKind, Boot, Condition, Device, Interrupt, Kind, Label, Operand, Operation,
     Reading, Script, Stmt,

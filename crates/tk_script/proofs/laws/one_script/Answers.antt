@@ -1,4 +1,4 @@
-use Rattle.tk_model.proofs.ReadingLaws.{spells_one}
+use Rattle.tk_script.proofs.Readings.{spells_one}
 use Rattle.tk_script.proofs.laws.one_script.Goals as goal
 
 pub returns : goal.returns

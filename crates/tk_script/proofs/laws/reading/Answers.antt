@@ -1,4 +1,4 @@
-use Rattle.tk_model.proofs.ReadingLaws.{reading_is}
+use Rattle.tk_script.proofs.Readings.{reading_is}
 use Rattle.tk_script.proofs.laws.reading.Goals as goal
 
 pub returns : goal.returns
