@@ -2,9 +2,3 @@ pub mod Choice
 pub mod Steps
 pub mod Precedence
 pub mod Preemption
-pub mod Choices
-pub mod NumberLaws
-pub mod FirstTakes
-pub mod Splits
-pub mod FirstAgain
-pub mod ReadingLaws

@@ -15,7 +15,6 @@ pub mod Words
 pub mod TextLines
 pub mod Lists
 pub mod ScriptText
-pub mod ScriptReading
 pub mod Rows
 pub mod LineRanges
 pub mod Journal

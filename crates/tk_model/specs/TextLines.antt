@@ -1,6 +1,6 @@
 -- The lines of a text, those of them that count, and what each shows by itself.
-use Rattle.std.specs.Prelude.{◌≡◌, ℕ, ◌+◌, Bool, true, false, ◌==◌, if◌then◌else◌, List, [], ◌∷◌, Option, None}
-use Rattle.std.specs.List.{AllByRecursion, slice_index}
+use Rattle.std.specs.Prelude.{◌≡◌, ℕ, ◌+◌, Bool, true, false, ◌==◌, if◌then◌else◌, List, [], ◌∷◌, None}
+use Rattle.std.specs.List.{AllByRecursion}
 use Rattle.tk_model.specs.Words.{is_word, lines_of, words_of, line_fault}
 
 -- the parts without a last one that has no bytes: no line stands behind the last line feed
