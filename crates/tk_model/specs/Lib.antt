@@ -12,6 +12,7 @@ pub mod LineText
 pub mod Machine
 pub mod Decimals
 pub mod Words
+pub mod TextLines
 pub mod Lists
 pub mod ScriptText
 pub mod ScriptReading

@@ -7,6 +7,7 @@ use Rattle.std.specs.List.{list_any, AllByRecursion}
 use Rattle.tk_types.specs.Names.{name_at_most}
 use Rattle.tk_types.specs.CallNames.{text_of, form_of}
 use Rattle.tk_model.specs.Lists.{list_text_of}
+use Rattle.tk_model.specs.TextLines.{kept_lines, IsClean}
 use Rattle.tk_types.specs.declared.modes.TheConstants.{ATTRIBUTE_WORDS, FLAG_MODE_WORDS, OPEN_MODE_WORDS, SUSPEND_MODE_WORDS}
 use Rattle.tk_types.specs.declared.call_name.ArgumentKind.{ArgumentKind}
 use Rattle.tk_types.specs.declared.call_name.ArgumentKind.TheVariants as kinds
@@ -282,3 +283,10 @@ pub record IsScript (script : Script) : Type 0 where
   pub few_bodies : IsBetween 1 255 (length script.bodies)
   pub bodies_differ : all_differ (map (λ (body : Body). body.name) script.bodies) ≡ true
   pub bodies : AllByRecursion (IsBody script.bodies) script.bodies
+
+-- a text spells a script: its lines that count are those of the script, word by word
+pub record Spells (text : List ℕ) (script : Script) : Type 0 where
+  pub short : length text ≤ 1048576
+  pub clean : IsClean text
+  pub lines : kept_lines text ≡ printed_lines script
+  pub script_is : IsScript script

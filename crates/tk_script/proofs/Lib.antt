@@ -1,5 +1,3 @@
-pub mod LineLoops
 pub mod Appends
-pub mod Taken
 pub mod Items
-pub mod Readings
+pub mod Loops

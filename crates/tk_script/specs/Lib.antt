@@ -1,2 +1,4 @@
 pub mod Gives
 pub mod Words
+pub mod Resolving
+pub mod Reading

@@ -1,43 +1,49 @@
-//! Why the reading of a text stops.
+//! Why the second pass stops.
 
 ghost use Rattle.std.specs.Prelude.{◌≡◌};
 
-use std::alloc::{AllocError, AllocFailed};
-use tk_types::OutOfMemory;
+use tk_types::{OutOfMemory, Why};
 
-/// Why the reading of a text stops: memory ran out, or a later version reads it.
+/// Why a step of the second pass stops: memory ran out, or a name stands for nothing that may stand there.
 #[derive(Clone, Copy, Debug, PartialEq, Eq)]
-pub enum ReadError {
+pub(crate) enum StepError {
     Memory,
-    Later,
+    Refused(Why),
 }
 
-impl From<OutOfMemory> for ReadError {
-    ghost use Rattle.tk_script.specs.declared.errors.ReadError.{ReadError};
+/// Why the second pass stops: memory ran out, or that line is wrong.
+#[derive(Clone, Copy, Debug, PartialEq, Eq)]
+pub(crate) enum LineError {
+    Memory,
+    Refused { line: u32, why: Why },
+}
 
-    ghost from_gives = { λ _ e. e ≡ ReadError.Memory };
+impl From<Why> for StepError {
+    ghost use Rattle.tk_script.specs.declared.errors.StepError.{StepError};
 
-    fn from(_error: OutOfMemory) -> ReadError {
-        ReadError::Memory
+    ghost from_gives = { λ why e. e ≡ StepError.Refused why };
+
+    fn from(why: Why) -> StepError {
+        StepError::Refused(why)
     }
 }
 
-impl From<AllocError> for ReadError {
-    ghost use Rattle.tk_script.specs.declared.errors.ReadError.{ReadError};
+impl From<OutOfMemory> for StepError {
+    ghost use Rattle.tk_script.specs.declared.errors.StepError.{StepError};
 
-    ghost from_gives = { λ _ e. e ≡ ReadError.Memory };
+    ghost from_gives = { λ _ e. e ≡ StepError.Memory };
 
-    fn from(_error: AllocError) -> ReadError {
-        ReadError::Memory
+    fn from(_error: OutOfMemory) -> StepError {
+        StepError::Memory
     }
 }
 
-impl<T: Drop> From<AllocFailed<T>> for ReadError {
-    ghost use Rattle.tk_script.specs.declared.errors.ReadError.{ReadError};
+impl From<OutOfMemory> for LineError {
+    ghost use Rattle.tk_script.specs.declared.errors.LineError.{LineError};
 
-    ghost from_gives = { λ _ e. e ≡ ReadError.Memory };
+    ghost from_gives = { λ _ e. e ≡ LineError.Memory };
 
-    fn from(_error: AllocFailed<T>) -> ReadError {
-        ReadError::Memory
+    fn from(_error: OutOfMemory) -> LineError {
+        LineError::Memory
     }
 }

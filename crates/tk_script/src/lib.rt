@@ -1,19 +1,14 @@
 //! Scripts as texts: reading them and printing them.
 #![tactic(auto)]
 
-mod bodies;
 mod errors;
-mod header;
-pub mod laws;
+mod lines;
+mod names;
 mod print_lines;
 mod print_statement;
 mod put;
 mod read;
-mod reading;
-mod statements;
-#[cfg(test)]
-mod tests;
-mod words;
+mod resolving;
 
 pub use print_lines::print_script;
 pub use read::read_script;

@@ -1,37 +1,33 @@
 //! Reading a script.
 
 ghost use Rattle.std.specs.Prelude.{◌≡◌, IfOk};
-ghost use Rattle.tk_types.specs.declared.script.Script.{Script};
-ghost use Rattle.tk_types.specs.declared.script.Reading.TheVariants as readings;
-ghost use Rattle.tk_model.specs.ScriptReading.{SpellsFirst, answer_first, reading_first};
+ghost use Rattle.tk_script.specs.Reading.{answer, reading};
+ghost use Rattle.tk_script.specs.Resolving.{resolved};
 
-use crate::errors::ReadError;
-use crate::reading::reading_first;
+use crate::errors::LineError;
+use crate::lines::resolved;
 use std::alloc::Global;
-use tk_types::{OutOfMemory, Reading, Why};
+use tk_raw::{RawReading, RawScript, read_raw};
+use tk_types::{OutOfMemory, Reading};
 
-/// The answer to a text.
-fn answer_first(alloc: Global, text: &[u8]) -> Result<Reading, OutOfMemory>
-    ensures { IfOk result (λ reading. reading ≡ answer_first (reading_first text.now)) }
+/// The answer to a script whose lines are read.
+fn answer_resolved(alloc: Global, raw: RawScript) -> Result<Reading, OutOfMemory>
+    ensures { IfOk result (λ reading. reading ≡ answer (resolved raw)) }
 {
-    match reading_first(alloc, text) {
+    match resolved(alloc, raw) {
         Ok(script) => Ok(Reading::Script(script)),
-        Err(ReadError::Memory) => Err(OutOfMemory),
-        Err(ReadError::Later) => Ok(Reading::Refused {
-            line: 0,
-            why: Why::Later,
-        }),
+        Err(LineError::Memory) => Err(OutOfMemory),
+        Err(LineError::Refused { line, why }) => Ok(Reading::Refused { line, why }),
     }
 }
 
-/// Reads a text as a script. A text of the first stage is the printed form, with or without its last line feed,
-/// of a script without devices, pace, interrupts and labels, whose bodies are task bodies that print names and
-/// call `tk_cre_tsk`, `tk_sta_tsk`, `tk_slp_tsk -1`, `tk_wup_tsk` and `tk_ext_tsk` with numbers. Each other text
-/// is refused at line 0 with the reason `later`.
+/// Reads a text as a script.
+#[tactic(auto, unfolding(crate::specs::Reading::reading))]
 pub fn read_script(alloc: Global, text: &[u8]) -> Result<Reading, OutOfMemory>
-    ensures exact { IfOk result (λ reading. reading ≡ answer_first (reading_first text.now)) }
-    ensures found { IfOk result (λ reading. (script : Script) → reading ≡ readings.Script script → SpellsFirst text.now script) }
-    ensures only { (script : Script) → SpellsFirst text.now script → IfOk result (λ reading. reading ≡ readings.Script script) }
+    ensures { IfOk result (λ read. read ≡ answer (reading text.now)) }
 {
-    answer_first(alloc, text)
+    match read_raw(alloc, text)? {
+        RawReading::Raw(raw) => answer_resolved(alloc, raw),
+        RawReading::Refused { line, why } => Ok(Reading::Refused { line, why }),
+    }
 }

@@ -1,0 +1,9 @@
+pub mod Heads
+pub mod RawText
+pub mod Pieces
+pub mod Answers
+pub mod Gives
+pub mod TextLoops
+pub mod Lines
+pub mod RawReading
+pub mod Rows

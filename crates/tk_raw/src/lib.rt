@@ -1,0 +1,17 @@
+//! Scripts as texts, read line by line: names stay names, and what they name is looked up by a later reader.
+#![tactic(auto)]
+
+mod bodies;
+mod builder;
+mod errors;
+mod head;
+mod header;
+mod pieces;
+mod raw;
+mod read;
+mod reading;
+mod steps;
+
+pub use head::Head;
+pub use read::{RawReading, read_raw};
+pub use raw::{Piece, RawBody, RawBoot, RawItem, RawScript, RawStmt};

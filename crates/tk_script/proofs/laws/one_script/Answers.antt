@@ -1,5 +1,0 @@
-use Rattle.tk_model.proofs.ReadingLaws.{spells_one}
-use Rattle.tk_script.proofs.laws.one_script.Goals as goal
-
-pub returns : goal.returns
-returns c = spells_one

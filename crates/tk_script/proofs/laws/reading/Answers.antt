@@ -1,5 +1,0 @@
-use Rattle.tk_model.proofs.ReadingLaws.{reading_is}
-use Rattle.tk_script.proofs.laws.reading.Goals as goal
-
-pub returns : goal.returns
-returns c = reading_is
