@@ -1,3 +1,4 @@
 pub mod Appends
 pub mod Items
 pub mod Loops
+pub mod BuiltLoops

@@ -1,4 +1,5 @@
 pub mod Gives
 pub mod Words
 pub mod Resolving
+pub mod Built
 pub mod Reading

@@ -1,9 +1,11 @@
 //! Scripts as texts: reading them and printing them.
 #![tactic(auto)]
 
+mod built;
 mod errors;
 mod lines;
 mod names;
+mod numbers;
 mod print_lines;
 mod print_statement;
 mod put;
@@ -11,7 +13,8 @@ mod read;
 mod resolving;
 
 pub use print_lines::print_script;
-pub use read::read_script;
+pub use built::first_unbuilt;
+pub use read::{read_built_script, read_script};
 pub use tk_types::{
     Arg, Body, BodyKind, Boot, Condition, Device, Interrupt, Kind, Label, Operand, Operation,
     Reading, Script, Stmt,

@@ -8,6 +8,7 @@ ghost use Rattle.tk_script.specs.Resolving.{at_line, behind_body, bodies_from, b
 
 use crate::errors::{LineError, StepError};
 use crate::names::body_number;
+use crate::numbers::{behind, behind_body, boot_numbers, first_number};
 use crate::resolving::stmt_by;
 use std::alloc::Global;
 use tk_raw::{RawBody, RawBoot, RawItem, RawScript, RawStmt};
@@ -57,27 +58,6 @@ fn labels_of(alloc: Global, items: &[RawItem]) -> Result<Sequence<Label>, OutOfM
         place = place_behind(item, place);
     }
     Ok(labels)
-}
-
-/// The number of the first line of these.
-fn first_number(numbers: &[u32]) -> u32
-    ensures { result ≡ first_number numbers.now }
-{
-    match numbers {
-        [] => 0,
-        [number, ..] => *number,
-    }
-}
-
-/// The numbers behind the first ones.
-fn behind(count: usize, numbers: &[u32]) -> &[u32]
-    ensures { result.now ≡ drop count numbers.now }
-{
-    if count < numbers.len() {
-        &numbers[count..]
-    } else {
-        &[]
-    }
 }
 
 /// The statement of a line with that number.
@@ -185,14 +165,6 @@ fn body_of(
     })
 }
 
-/// The numbers behind a body, which has a first line and a last one.
-#[tactic(auto, unfolding(crate::specs::Resolving::behind_body))]
-fn behind_body<'a>(body: &RawBody, numbers: &'a [u32]) -> &'a [u32]
-    ensures { result.now ≡ behind_body body.now numbers.now }
-{
-    behind(1, behind(body.items.len(), behind(1, numbers)))
-}
-
 /// The bodies with that one.
 #[tactic(auto, unfolding(crate::specs::Resolving::bodies_with))]
 fn bodies_with(
@@ -227,25 +199,6 @@ fn bodies_from(
         left = behind_body(body, left);
     }
     Ok(done)
-}
-
-fn pace_count(pace: Option<u32>) -> usize
-    ensures { result ≡ pace_count pace }
-{
-    match pace {
-        None => 0,
-        Some(_) => 1,
-    }
-}
-
-/// The numbers from the boot line on.
-#[tactic(auto, unfolding(crate::specs::Resolving::boot_numbers))]
-fn boot_numbers(raw: &RawScript) -> &[u32]
-    ensures { result.now ≡ boot_numbers raw.now }
-{
-    let behind_devices = behind(raw.devices.len(), raw.lines.as_slice());
-    let behind_pace = behind(pace_count(raw.pace), behind_devices);
-    behind(raw.irqs.len(), behind_pace)
 }
 
 /// The number of the body of the task at the start.
