@@ -1,16 +1,13 @@
 -- Laws of the first words of statements. Each goes through all of them, since a last case is checked for each.
-use Rattle.std.specs.Prelude.{ℕ, Option, Some, None, Bool, true, false, List, not, ◌==◌, ◌≡◌, refl, bytes_eq, codes}
-use Rattle.std.proofs.Common.{ap}
-use Rattle.std.specs.List.{list_all}
-use Rattle.std.specs.Option.{option_map}
+use Rattle.std.specs.Prelude.{Some, None, false, ◌≡◌, refl, bytes_eq, codes}
 use Rattle.tk_types.specs.declared.call_name.CallName.{CallName}
 use Rattle.tk_types.specs.declared.call_name.CallName.TheVariants.{TkCreTsk}
-use Rattle.tk_types.specs.CallNames.{text_of, form_of, named}
+use Rattle.tk_types.specs.CallNames.{text_of}
 use Rattle.tk_types.proofs.CallNameLaws.{named_text_of}
 use Rattle.tk_model.specs.ScriptText.{operation_word}
 use Rattle.tk_raw.specs.declared.head.Head.{Head}
 use Rattle.tk_raw.specs.declared.head.Head.TheVariants as heads
-use Rattle.tk_raw.specs.Heads.{head_text, form_of_head, head_named, own_head, head_or_call}
+use Rattle.tk_raw.specs.Heads.{head_text, head_named, own_head}
 
 -- no call is spelled like a statement of its own
 call_is_not_own : (name : CallName) → own_head (text_of name) ≡ None

@@ -1,5 +1,5 @@
 -- The lines of a text, one by one.
-use Rattle.std.proofs.Common.{◌≡◌, ◌≢◌, ◌∙◌, sym, ap, subst, refl, arith, ℕ, ◌+◌, ◌<◌, ◌≤◌, Bool, true, false, not, cond, eqb, List, [], ◌∷◌, length, Option, Some, None, Result, Ok, Err}
+use Rattle.std.proofs.Common.{◌≡◌, ◌≢◌, ◌∙◌, sym, ap, subst, refl, arith, ℕ, ◌+◌, ◌<◌, ◌≤◌, Bool, true, false, cond, eqb, List, [], ◌∷◌, length, Option, Some, None, Result, Ok, Err}
 use Rattle.std.specs.List.{slice_split, onto_first}
 use Rattle.std.proofs.lemmas.Bool.Decides.{nat_tests}
 use Rattle.tk_types.specs.declared.why.Why.{Why}
@@ -7,10 +7,10 @@ use Rattle.tk_text.specs.Tokens.{parts_left, room_left}
 use Rattle.tk_model.specs.Words.{parts_of, is_word}
 use Rattle.tk_raw.specs.Lines.{text_lines, whole_lines}
 use Rattle.tk_types.specs.declared.why.Why.TheVariants.{Head}
-use Rattle.tk_raw.specs.RawReading.{Refusal, then_read, head_line, read_line, read_lines, read_all, raw_reading, ended}
+use Rattle.tk_raw.specs.RawReading.{Refusal, then_read, head_line, read_line, read_lines, read_all, raw_reading}
 use Rattle.tk_raw.specs.Gives.{Gives, GivesText}
 use Rattle.tk_raw.specs.TextLoops.{text_behind, in_line}
-use Rattle.tk_raw.specs.declared.builder.Builder.{Builder}
+use Rattle.tk_raw.specs.declared.builder.Reached.{Reached}
 use Rattle.tk_raw.specs.declared.errors.ReadError.{ReadError}
 use Rattle.tk_raw.specs.declared.errors.ReadError.TheVariants as errors
 use Rattle.tk_raw.specs.declared.errors.TextError.{TextError}
@@ -54,10 +54,10 @@ next_line bytes line None some parts room =
 next_line bytes line (Some behind) some parts room = ap whole_lines parts ∙ whole_more line (parts_of 10 behind) (some_part 10 behind)
 
 -- the next line is read
-pub line_passed : (number : ℕ) (builder next : Builder) (line : List ℕ) (lines rest : List (List ℕ)) (all : Result RawScript Refusal) → lines ≡ line ∷ rest → read_line number builder line ≡ Ok next → read_lines number builder lines ≡ all → read_lines (number + 1) next rest ≡ all
+pub line_passed : (number : ℕ) (reached next : Reached) (line : List ℕ) (lines rest : List (List ℕ)) (all : Result RawScript Refusal) → lines ≡ line ∷ rest → read_line number reached line ≡ Ok next → read_lines number reached lines ≡ all → read_lines (number + 1) next rest ≡ all
 unfolding read_lines
-line_passed number builder next line lines rest all cut read same =
-    let e = subst (λ (ls : List (List ℕ)). read_lines number builder ls ≡ all) cut same in rw read at e
+line_passed number reached next line lines rest all cut read same =
+    let e = subst (λ (ls : List (List ℕ)). read_lines number reached ls ≡ all) cut same in rw read at e
 
 -- what is wrong with a line is so in the text
 pub refused_in_line : {A : Type 0} (number : ℕ) (error : ReadError) (read : Result A Why) (next : A → Result RawScript Refusal) → Gives {X = A} (λ (x : A). x) (Err error) read → GivesText {X = RawScript} (λ (raw : RawScript). raw) (Err (in_line number error)) (then_read number read next)
@@ -65,45 +65,45 @@ refused_in_line number errors.Memory read next gives = tt
 refused_in_line number (errors.Refused why) read next gives = ap (λ r. then_read number r next) gives
 
 -- the next line is refused
-pub line_refused : (number : ℕ) (builder : Builder) (line : List ℕ) (lines rest : List (List ℕ)) (all : Result RawScript Refusal) (error : ReadError) → lines ≡ line ∷ rest → Gives {X = Builder} (λ (b : Builder). b) (Err error) (read_line number builder line) → read_lines number builder lines ≡ all → GivesText {X = RawScript} (λ (raw : RawScript). raw) (Err (in_line number error)) all
+pub line_refused : (number : ℕ) (reached : Reached) (line : List ℕ) (lines rest : List (List ℕ)) (all : Result RawScript Refusal) (error : ReadError) → lines ≡ line ∷ rest → Gives {X = Reached} (λ (b : Reached). b) (Err error) (read_line number reached line) → read_lines number reached lines ≡ all → GivesText {X = RawScript} (λ (raw : RawScript). raw) (Err (in_line number error)) all
 unfolding read_lines
-line_refused number builder line lines rest all error cut read same =
-    subst (λ (r : Result RawScript Refusal). GivesText {X = RawScript} (λ (raw : RawScript). raw) (Err (in_line number error)) r) (sym (ap (read_lines number builder) cut) ∙ same)
-    (refused_in_line number error (read_line number builder line) (λ next. read_lines (number + 1) next rest) read)
+line_refused number reached line lines rest all error cut read same =
+    subst (λ (r : Result RawScript Refusal). GivesText {X = RawScript} (λ (raw : RawScript). raw) (Err (in_line number error)) r) (sym (ap (read_lines number reached) cut) ∙ same)
+    (refused_in_line number error (read_line number reached line) (λ next. read_lines (number + 1) next rest) read)
 
-pub refused_here : (number : ℕ) (builder : Builder) (line : List ℕ) (lines rest : List (List ℕ)) (all : Result RawScript Refusal) (error : ReadError) (read : Result Builder ReadError) (result : TextError) → lines ≡ line ∷ rest → read ≡ Err error → Gives {X = Builder} (λ (b : Builder). b) read (read_line number builder line) → result ≡ in_line number error → read_lines number builder lines ≡ all → GivesText {X = RawScript} (λ (raw : RawScript). raw) (Err result) all
-refused_here number builder line lines rest all error read result cut is gives named same =
+pub refused_here : (number : ℕ) (reached : Reached) (line : List ℕ) (lines rest : List (List ℕ)) (all : Result RawScript Refusal) (error : ReadError) (read : Result Reached ReadError) (result : TextError) → lines ≡ line ∷ rest → read ≡ Err error → Gives {X = Reached} (λ (b : Reached). b) read (read_line number reached line) → result ≡ in_line number error → read_lines number reached lines ≡ all → GivesText {X = RawScript} (λ (raw : RawScript). raw) (Err result) all
+refused_here number reached line lines rest all error read result cut is gives named same =
     subst (λ (e : TextError). GivesText {X = RawScript} (λ (raw : RawScript). raw) (Err e) all) (sym named)
-    (line_refused number builder line lines rest all error cut (subst (λ (r : Result Builder ReadError). Gives {X = Builder} (λ (b : Builder). b) r (read_line number builder line)) is gives) same)
+    (line_refused number reached line lines rest all error cut (subst (λ (r : Result Reached ReadError). Gives {X = Reached} (λ (b : Reached). b) r (read_line number reached line)) is gives) same)
 
 -- nothing is left but the end
-pub at_end : (number : ℕ) (builder : Builder) (bytes : List ℕ) (all : Result RawScript Refusal) (result : Result RawScript TextError) → length bytes ≡ 0 → GivesText {X = RawScript} (λ (raw : RawScript). raw) result (read_lines number builder []) → read_lines number builder (text_lines bytes) ≡ all → GivesText {X = RawScript} (λ (raw : RawScript). raw) result all
-at_end number builder [] all result none gives same = subst (λ (r : Result RawScript Refusal). GivesText {X = RawScript} (λ (raw : RawScript). raw) result r) (sym (ap (read_lines number builder) no_text_lines) ∙ same) gives
-at_end number builder (byte ∷ bytes) all result none gives same = absurd (omega (arith, none))
+pub at_end : (number : ℕ) (reached : Reached) (bytes : List ℕ) (all : Result RawScript Refusal) (result : Result RawScript TextError) → length bytes ≡ 0 → GivesText {X = RawScript} (λ (raw : RawScript). raw) result (read_lines number reached []) → read_lines number reached (text_lines bytes) ≡ all → GivesText {X = RawScript} (λ (raw : RawScript). raw) result all
+at_end number reached [] all result none gives same = subst (λ (r : Result RawScript Refusal). GivesText {X = RawScript} (λ (raw : RawScript). raw) result r) (sym (ap (read_lines number reached) no_text_lines) ∙ same) gives
+at_end number reached (byte ∷ bytes) all result none gives same = absurd (omega (arith, none))
 
 pub room_behind : (number size : ℕ) (line : List ℕ) (rest : Option (List ℕ)) → 0 < size → length line + room_left rest ≡ size → number + size ≤ 1048578 → number + 1 + length (text_behind rest) ≤ 1048578
 room_behind number size line None some room fits = omega (arith, some, fits)
 room_behind number size line (Some behind) some room fits = omega (arith, room, fits)
 
-pub passed_here : (number : ℕ) (builder next : Builder) (line bytes : List ℕ) (lines rest : List (List ℕ)) (all : Result RawScript Refusal) (read : Result Builder ReadError) → lines ≡ line ∷ rest → read ≡ Ok next → Gives {X = Builder} (λ (b : Builder). b) read (read_line number builder line) → text_lines bytes ≡ rest → read_lines number builder lines ≡ all → read_lines (number + 1) next (text_lines bytes) ≡ all
-passed_here number builder next line bytes lines rest all read cut is gives left same =
-    ap (read_lines (number + 1) next) left ∙ line_passed number builder next line lines rest all cut (subst (λ (r : Result Builder ReadError). Gives {X = Builder} (λ (b : Builder). b) r (read_line number builder line)) is gives) same
+pub passed_here : (number : ℕ) (reached next : Reached) (line bytes : List ℕ) (lines rest : List (List ℕ)) (all : Result RawScript Refusal) (read : Result Reached ReadError) → lines ≡ line ∷ rest → read ≡ Ok next → Gives {X = Reached} (λ (b : Reached). b) read (read_line number reached line) → text_lines bytes ≡ rest → read_lines number reached lines ≡ all → read_lines (number + 1) next (text_lines bytes) ≡ all
+passed_here number reached next line bytes lines rest all read cut is gives left same =
+    ap (read_lines (number + 1) next) left ∙ line_passed number reached next line lines rest all cut (subst (λ (r : Result Reached ReadError). Gives {X = Reached} (λ (b : Reached). b) r (read_line number reached line)) is gives) same
 
 -- line 1 is read
-pub first_read : (builder : Builder) (line bytes : List ℕ) (lines rest : List (List ℕ)) (read : Result Builder ReadError) (result : Result RawScript TextError) → lines ≡ line ∷ rest → read ≡ Ok builder → Gives {X = Builder} (λ (b : Builder). b) read (head_line line) → text_lines bytes ≡ rest → GivesText {X = RawScript} (λ (raw : RawScript). raw) result (read_lines 2 builder (text_lines bytes)) → GivesText {X = RawScript} (λ (raw : RawScript). raw) result (read_all lines)
+pub first_read : (reached : Reached) (line bytes : List ℕ) (lines rest : List (List ℕ)) (read : Result Reached ReadError) (result : Result RawScript TextError) → lines ≡ line ∷ rest → read ≡ Ok reached → Gives {X = Reached} (λ (b : Reached). b) read (head_line line) → text_lines bytes ≡ rest → GivesText {X = RawScript} (λ (raw : RawScript). raw) result (read_lines 2 reached (text_lines bytes)) → GivesText {X = RawScript} (λ (raw : RawScript). raw) result (read_all lines)
 unfolding read_all
-first_read builder line bytes lines rest read result cut is gives left read_on =
-    let head : head_line line ≡ Ok builder = subst (λ (r : Result Builder ReadError). Gives {X = Builder} (λ (b : Builder). b) r (head_line line)) is gives in
-    let all : read_all lines ≡ read_lines 2 builder (text_lines bytes) = ap read_all cut ∙ (ap (λ r. then_read 1 r (λ b. read_lines 2 b rest)) head ∙ ap (read_lines 2 builder) (sym left)) in
+first_read reached line bytes lines rest read result cut is gives left read_on =
+    let head : head_line line ≡ Ok reached = subst (λ (r : Result Reached ReadError). Gives {X = Reached} (λ (b : Reached). b) r (head_line line)) is gives in
+    let all : read_all lines ≡ read_lines 2 reached (text_lines bytes) = ap read_all cut ∙ (ap (λ r. then_read 1 r (λ b. read_lines 2 b rest)) head ∙ ap (read_lines 2 reached) (sym left)) in
     subst (λ (r : Result RawScript Refusal). GivesText {X = RawScript} (λ (raw : RawScript). raw) result r) (sym all) read_on
 
 -- line 1 is refused
-pub first_refused : (line : List ℕ) (lines rest : List (List ℕ)) (error : ReadError) (read : Result Builder ReadError) (result : TextError) → lines ≡ line ∷ rest → read ≡ Err error → Gives {X = Builder} (λ (b : Builder). b) read (head_line line) → result ≡ in_line 1 error → GivesText {X = RawScript} (λ (raw : RawScript). raw) (Err result) (read_all lines)
+pub first_refused : (line : List ℕ) (lines rest : List (List ℕ)) (error : ReadError) (read : Result Reached ReadError) (result : TextError) → lines ≡ line ∷ rest → read ≡ Err error → Gives {X = Reached} (λ (b : Reached). b) read (head_line line) → result ≡ in_line 1 error → GivesText {X = RawScript} (λ (raw : RawScript). raw) (Err result) (read_all lines)
 unfolding read_all
 first_refused line lines rest error read result cut is gives named =
     subst (λ (e : TextError). GivesText {X = RawScript} (λ (raw : RawScript). raw) (Err e) (read_all lines)) (sym named)
     (subst (λ (r : Result RawScript Refusal). GivesText {X = RawScript} (λ (raw : RawScript). raw) (Err (in_line 1 error)) r) (sym (ap read_all cut))
-    (refused_in_line 1 error (head_line line) (λ b. read_lines 2 b rest) (subst (λ (r : Result Builder ReadError). Gives {X = Builder} (λ (b : Builder). b) r (head_line line)) is gives)))
+    (refused_in_line 1 error (head_line line) (λ b. read_lines 2 b rest) (subst (λ (r : Result Reached ReadError). Gives {X = Reached} (λ (b : Reached). b) r (head_line line)) is gives)))
 
 -- a text without bytes has no line 1
 pub no_first_line : (text : List ℕ) → length text ≡ 0 → raw_reading text ≡ Err (1, Head)

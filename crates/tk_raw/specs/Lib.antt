@@ -1,6 +1,7 @@
 pub mod Heads
 pub mod RawText
 pub mod Pieces
+pub mod Spelling
 pub mod Answers
 pub mod Gives
 pub mod TextLoops

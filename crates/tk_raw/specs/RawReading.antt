@@ -1,5 +1,5 @@
 -- How a text is read line by line, as a script whose names aren't resolved yet, or as the first line that is wrong.
-use Rattle.std.specs.Prelude.{ℕ, ◌+◌, ◌-◌, Bool, true, false, not, nat_lt, nat_le, ◌==◌, ◌&&◌, if◌then◌else◌, List, [], ◌∷◌, ◌++◌, map, length, Option, Some, None, Result, Ok, Err, codes, slice_get}
+use Rattle.std.specs.Prelude.{ℕ, ◌+◌, ◌-◌, Bool, false, not, nat_lt, ◌==◌, ◌&&◌, if◌then◌else◌, List, [], ◌∷◌, ◌++◌, length, Option, Some, None, Result, Ok, Err, codes, slice_get}
 use Rattle.std.specs.List.{list_any}
 use Rattle.std.specs.Option.{is_some}
 use Rattle.std.specs.Str.{bytes_eq}
@@ -13,8 +13,9 @@ use Rattle.tk_types.specs.declared.why.Why.{Why}
 use Rattle.tk_types.specs.declared.why.Why.TheVariants as whys
 use Rattle.tk_model.specs.Words.{words_of, line_fault}
 use Rattle.tk_raw.specs.Lines.{text_lines, begins_note}
-use Rattle.tk_raw.specs.Pieces.{◌>>=◌, tested, name_at, short_name_at, number_between, raw_stmt_at}
+use Rattle.tk_raw.specs.Pieces.{◌>>=◌, name_at, short_name_at, number_between, raw_stmt_at}
 use Rattle.tk_raw.specs.declared.builder.Builder.{Builder}
+use Rattle.tk_raw.specs.declared.builder.Reached.{Reached}
 use Rattle.tk_raw.specs.declared.builder.UnitWord.{UnitWord}
 use Rattle.tk_raw.specs.declared.builder.UnitWord.TheVariants as words
 use Rattle.tk_raw.specs.declared.raw.RawBody.{RawBody}
@@ -95,7 +96,7 @@ new_device_name devices word = do
 unfoldable pub device_from : List Device → List ℕ → UnitWord → List (List ℕ) → Result Device Why
 device_from devices word unit numbers =
     if length numbers == unit_count unit then
-        (new_device_name devices word >>= λ name. unit_at unit numbers >>= λ kind. Ok (record { name = name; kind = kind }))
+    (new_device_name devices word >>= λ name. unit_at unit numbers >>= λ kind. Ok (record { name = name; kind = kind }))
     else Err whys.Count
 
 unfoldable pub device_at : List Device → List (List ℕ) → Result Device Why
@@ -177,7 +178,7 @@ takes_body builder = is_some builder.boot && nat_lt (length builder.bodies) 255
 unfoldable pub device_line : Builder → List (List ℕ) → Result Builder Why
 device_line builder words =
     if takes_device builder then
-        (device_at builder.devices words >>= λ device. Ok (record builder { devices = builder.devices ++ device ∷ [] }))
+    (device_at builder.devices words >>= λ device. Ok (record builder { devices = builder.devices ++ device ∷ [] }))
     else Err whys.Order
 
 unfoldable pub pace_line : Builder → List (List ℕ) → Result Builder Why
@@ -187,7 +188,7 @@ pace_line builder words =
 unfoldable pub irq_line : Builder → List (List ℕ) → Result Builder Why
 irq_line builder words =
     if takes_irq builder then
-        (irq_at builder.irqs words >>= λ irq. Ok (record builder { irqs = builder.irqs ++ irq ∷ [] }))
+    (irq_at builder.irqs words >>= λ irq. Ok (record builder { irqs = builder.irqs ++ irq ∷ [] }))
     else Err whys.Order
 
 unfoldable pub boot_line : Builder → List (List ℕ) → Result Builder Why
@@ -254,44 +255,46 @@ without_current builder = record builder { current = None }
 unfoldable pub step : Builder → List ℕ → List (List ℕ) → Result Builder Why
 step builder first words = step_in builder.current (without_current builder) first words
 
--- the number of a line that was read is kept
-abbrev pub with_line : ℕ → Builder → Builder
-with_line number builder = record builder { lines = builder.lines ++ number ∷ [] }
-
 -- a line that is skipped, or one that counts
-unfoldable pub words_line : ℕ → Builder → List (List ℕ) → Result Builder Why
-words_line number builder [] = Ok builder
-words_line number builder (first ∷ words) =
-    if begins_note first then Ok builder else (step builder first words >>= λ next. Ok (with_line number next))
+unfoldable pub words_line : ℕ → Reached → List (List ℕ) → Result Reached Why
+words_line number reached [] = Ok reached
+words_line number reached (first ∷ words) =
+    if begins_note first then Ok reached
+    else (step reached.builder first words >>= λ next. Ok (record { builder = next; lines = reached.lines ++ number ∷ [] }))
 
-abbrev pub clean : Option Why → Result Builder Why → Result Builder Why
+abbrev pub clean : {A : Type 0} → Option Why → Result A Why → Result A Why
 clean None next = next
 clean (Some why) next = Err why
 
 -- one line: its bytes, and then its words
-unfoldable pub read_line : ℕ → Builder → List ℕ → Result Builder Why
-read_line number builder line = clean (line_fault line) (words_line number builder (words_of line))
+unfoldable pub read_line : ℕ → Reached → List ℕ → Result Reached Why
+read_line number reached line = clean (line_fault line) (words_line number reached (words_of line))
 
 unfoldable pub is_head : List (List ℕ) → Bool
 is_head (utk ∷ one ∷ []) = bytes_eq utk (codes "utk") && bytes_eq one (codes "1")
 is_head _ = false
 
-abbrev pub no_lines : Builder
-no_lines = record { devices = []; pace = None; irqs = []; boot = None; bodies = []; current = None; lines = [] }
+abbrev pub nothing : Builder
+nothing = record { devices = []; pace = None; irqs = []; boot = None; bodies = []; current = None }
+
+abbrev pub no_lines : Reached
+no_lines = record { builder = nothing; lines = [] }
 
 -- line 1
-unfoldable pub head_line : List ℕ → Result Builder Why
+unfoldable pub head_line : List ℕ → Result Reached Why
 head_line line = clean (line_fault line) (if is_head (words_of line) then Ok no_lines else Err whys.Head)
 
-abbrev pub script_with : Option RawBoot → Builder → Result RawScript Why
-script_with None builder = Err whys.End
-script_with (Some boot) builder =
-    if length builder.bodies == 0 then Err whys.End
-    else Ok (record { devices = builder.devices; pace = builder.pace; irqs = builder.irqs; boot = boot; bodies = builder.bodies; lines = builder.lines })
+abbrev pub script_of : Builder → RawBoot → List ℕ → RawScript
+script_of builder boot lines = record { devices = builder.devices; pace = builder.pace; irqs = builder.irqs; boot = boot; bodies = builder.bodies; lines = lines }
+
+abbrev pub script_with : Option RawBoot → Builder → List ℕ → Result RawScript Why
+script_with None builder lines = Err whys.End
+script_with (Some boot) builder lines = if length builder.bodies == 0 then Err whys.End else Ok (script_of builder boot lines)
 
 -- the end of the text: no body is open, and there is a boot line and a body
-unfoldable pub ended : Builder → Result RawScript Why
-ended builder = if is_some builder.current then Err whys.End else script_with builder.boot builder
+unfoldable pub ended : Reached → Result RawScript Why
+ended reached =
+    if is_some reached.builder.current then Err whys.End else script_with reached.builder.boot reached.builder reached.lines
 
 -- what is read behind a line with that number
 abbrev pub then_read : {A : Type 0} → ℕ → Result A Why → (A → Result RawScript Refusal) → Result RawScript Refusal
@@ -299,13 +302,13 @@ then_read number (Ok read) next = next read
 then_read number (Err why) next = Err (number, why)
 
 -- the lines behind line 1, of which the first has that number, and then the end
-unfoldable pub read_lines : ℕ → Builder → List (List ℕ) → Result RawScript Refusal
-read_lines number builder [] = then_read number (ended builder) Ok
-read_lines number builder (line ∷ lines) = then_read number (read_line number builder line) (λ next. read_lines (number + 1) next lines)
+unfoldable pub read_lines : ℕ → Reached → List (List ℕ) → Result RawScript Refusal
+read_lines number reached [] = then_read number (ended reached) Ok
+read_lines number reached (line ∷ lines) = then_read number (read_line number reached line) (λ next. read_lines (number + 1) next lines)
 
 unfoldable pub read_all : List (List ℕ) → Result RawScript Refusal
 read_all [] = Err (1, whys.Head)
-read_all (line ∷ lines) = then_read 1 (head_line line) (λ builder. read_lines 2 builder lines)
+read_all (line ∷ lines) = then_read 1 (head_line line) (λ reached. read_lines 2 reached lines)
 
 -- the script that a text is, or the first line that is wrong
 unfoldable pub raw_reading : List ℕ → Result RawScript Refusal

@@ -48,12 +48,7 @@ fn new_body_name(bodies: &[RawBody], word: &[u8]) -> Result<Name, Why>
 }
 
 #[tactic(auto, unfolding(crate::specs::RawReading::body_from))]
-fn body_from(
-    alloc: Global,
-    bodies: &[RawBody],
-    name: &[u8],
-    kind: &[u8],
-) -> Result<RawBody, Why>
+fn body_from(alloc: Global, bodies: &[RawBody], name: &[u8], kind: &[u8]) -> Result<RawBody, Why>
     ensures { result ≡ body_from bodies.now name.now kind.now }
 {
     let name = new_body_name(bodies, name)?;
@@ -67,11 +62,7 @@ fn body_from(
 
 /// A body without lines, from the words behind the first of its first line.
 #[tactic(auto, unfolding(crate::specs::RawReading::body_at))]
-pub(crate) fn body_at(
-    alloc: Global,
-    bodies: &[RawBody],
-    words: &[&[u8]],
-) -> Result<RawBody, Why>
+pub(crate) fn body_at(alloc: Global, bodies: &[RawBody], words: &[&[u8]]) -> Result<RawBody, Why>
     ensures { result ≡ body_at bodies.now (texts words.now) }
 {
     match words {

@@ -3,7 +3,7 @@
 use crate::raw::{RawBody, RawBoot};
 use tk_types::{Device, Interrupt, Sequence};
 
-/// What was read so far. It moves from line to line.
+/// What was read of a script so far. It moves from line to line.
 #[derive(Drop, Debug)]
 pub(crate) struct Builder {
     pub(crate) devices: Sequence<Device>,
@@ -14,7 +14,12 @@ pub(crate) struct Builder {
     pub(crate) bodies: Sequence<RawBody>,
     /// The body that isn't at its end yet.
     pub(crate) current: Option<RawBody>,
-    /// The number of each line that was read.
+}
+
+/// What was read so far, and the number of each line that counts.
+#[derive(Drop, Debug)]
+pub(crate) struct Reached {
+    pub(crate) builder: Builder,
     pub(crate) lines: Sequence<u32>,
 }
 

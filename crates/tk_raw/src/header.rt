@@ -12,6 +12,7 @@ use tk_types::{Device, Interrupt, Kind, Name, Why};
 
 /// The most bytes of a device, and the last step that has an interrupt.
 const MOST_BYTES: u32 = 65_536;
+
 const LAST_STEP: u32 = 1_000_000;
 
 /// A name that none of those before has.
@@ -26,9 +27,7 @@ pub(crate) fn new_name(taken: bool, name: Name) -> Result<Name, Why>
 fn device_taken(devices: &[Device], word: &[u8]) -> bool
     ensures { result ≡ device_taken devices.now word.now }
 {
-    devices
-        .iter()
-        .any(|device| device.name.as_bytes() == word)
+    devices.iter().any(|device| device.name.as_bytes() == word)
 }
 
 /// The kind of a device's unit that a word spells.

@@ -6,12 +6,15 @@ mod builder;
 mod errors;
 mod head;
 mod header;
+pub mod laws;
 mod pieces;
 mod raw;
 mod read;
 mod reading;
 mod steps;
+#[cfg(test)]
+mod tests;
 
 pub use head::Head;
-pub use read::{RawReading, read_raw};
 pub use raw::{Piece, RawBody, RawBoot, RawItem, RawScript, RawStmt};
+pub use read::{RawReading, read_raw};

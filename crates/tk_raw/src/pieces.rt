@@ -27,7 +27,11 @@ fn register_at(word: &[u8]) -> Option<u8>
                 return None;
             }
             let number = natural(digits)?;
-            if number < 16 { Some(number as u8) } else { None }
+            if number < 16 {
+                Some(number as u8)
+            } else {
+                None
+            }
         }
     }
 }

@@ -8,9 +8,9 @@ ghost use Rattle.tk_model.specs.Words.{lines_of};
 ghost use Rattle.tk_raw.specs.Gives.{Gives, GivesText};
 ghost use Rattle.tk_raw.specs.Lines.{begins_note, text_lines, whole_lines};
 ghost use Rattle.tk_raw.specs.TextLoops.{text_behind, in_line};
-ghost use Rattle.tk_raw.specs.RawReading.{clean, ended, head_line, is_head, no_lines, raw_reading, read_all, read_line, read_lines, script_with, words_line};
+ghost use Rattle.tk_raw.specs.RawReading.{clean, ended, head_line, is_head, no_lines, nothing, raw_reading, read_all, read_line, read_lines, script_with, words_line};
 
-use crate::builder::Builder;
+use crate::builder::{Builder, Reached};
 use crate::errors::{ReadError, TextError};
 use crate::raw::RawScript;
 use crate::steps::step;
@@ -37,20 +37,21 @@ fn begins_note(word: &[u8]) -> bool
 fn words_line(
     alloc: Global,
     number: u32,
-    builder: Builder,
+    reached: Reached,
     words: &[&[u8]],
-) -> Result<Builder, ReadError>
-    ensures { Gives (λ builder. builder) result (words_line number builder (texts words.now)) }
+) -> Result<Reached, ReadError>
+    ensures { Gives (λ reached. reached) result (words_line number reached (texts words.now)) }
 {
     match words {
-        [] => Ok(builder),
+        [] => Ok(reached),
         [first, words @ ..] => {
             if begins_note(first) {
-                return Ok(builder);
+                return Ok(reached);
             }
-            let mut next = step(alloc, builder, first, words)?;
-            next.lines.push(number)?;
-            Ok(next)
+            let Reached { builder, mut lines } = reached;
+            let builder = step(alloc, builder, first, words)?;
+            lines.push(number)?;
+            Ok(Reached { builder, lines })
         }
     }
 }
@@ -60,16 +61,16 @@ fn words_line(
 fn read_line(
     alloc: Global,
     number: u32,
-    builder: Builder,
+    reached: Reached,
     line: &[u8],
-) -> Result<Builder, ReadError>
-    ensures { Gives (λ builder. builder) result (read_line number builder line.now) }
+) -> Result<Reached, ReadError>
+    ensures { Gives (λ reached. reached) result (read_line number reached line.now) }
 {
     if let Some(why) = line_fault(line) {
         return Err(ReadError::Refused(why));
     }
     let words = line_words(alloc, line)?;
-    words_line(alloc, number, builder, words.as_slice())
+    words_line(alloc, number, reached, words.as_slice())
 }
 
 /// Whether words are those of line 1.
@@ -84,8 +85,8 @@ fn is_head(words: &[&[u8]]) -> bool
 }
 
 /// What is read before line 2.
-fn no_lines(alloc: Global) -> Builder
-    ensures { result ≡ no_lines }
+fn nothing(alloc: Global) -> Builder
+    ensures { result ≡ nothing }
 {
     Builder {
         devices: Sequence::new(alloc),
@@ -94,14 +95,23 @@ fn no_lines(alloc: Global) -> Builder
         boot: None,
         bodies: Sequence::new(alloc),
         current: None,
+    }
+}
+
+/// What is reached before line 2.
+fn no_lines(alloc: Global) -> Reached
+    ensures { result ≡ no_lines }
+{
+    Reached {
+        builder: nothing(alloc),
         lines: Sequence::new(alloc),
     }
 }
 
 /// Line 1.
 #[tactic(auto, unfolding(crate::specs::RawReading::head_line))]
-fn head_line(alloc: Global, line: &[u8]) -> Result<Builder, ReadError>
-    ensures { Gives (λ builder. builder) result (head_line line.now) }
+fn head_line(alloc: Global, line: &[u8]) -> Result<Reached, ReadError>
+    ensures { Gives (λ reached. reached) result (head_line line.now) }
 {
     if let Some(why) = line_fault(line) {
         return Err(ReadError::Refused(why));
@@ -116,9 +126,10 @@ fn head_line(alloc: Global, line: &[u8]) -> Result<Builder, ReadError>
 
 /// The end of the text: no body is open, and there is a boot line and a body.
 #[tactic(auto, unfolding(crate::specs::RawReading::ended))]
-fn ended(builder: Builder) -> Result<RawScript, ReadError>
-    ensures { Gives (λ raw. raw) result (ended builder) }
+fn ended(reached: Reached) -> Result<RawScript, ReadError>
+    ensures { Gives (λ raw. raw) result (ended reached) }
 {
+    let Reached { builder, lines } = reached;
     let Builder {
         devices,
         pace,
@@ -126,7 +137,6 @@ fn ended(builder: Builder) -> Result<RawScript, ReadError>
         boot,
         bodies,
         current,
-        lines,
     } = builder;
     if current.is_some() {
         return Err(ReadError::Refused(Why::End));
@@ -169,35 +179,35 @@ fn in_line(line: u32, error: ReadError) -> TextError
     }
 }
 
-#[tactic(auto, unfolding(crate::specs::RawReading::read_lines), using(crate::proofs::TextLoops::refused_in_line))]
 /// The end of a text whose lines have numbers below that one.
-fn ended_at(number: u32, builder: Builder) -> Result<RawScript, TextError>
-    ensures { GivesText (λ raw. raw) result (read_lines number builder []) }
+#[tactic(auto, unfolding(crate::specs::RawReading::read_lines), using(crate::proofs::TextLoops::refused_in_line))]
+fn ended_at(number: u32, reached: Reached) -> Result<RawScript, TextError>
+    ensures { GivesText (λ raw. raw) result (read_lines number reached []) }
 {
-    match ended(builder) {
+    match ended(reached) {
         Ok(raw) => Ok(raw),
         Err(error) => Err(in_line(number, error)),
     }
 }
 
 /// The lines behind line 1, and then the end.
-fn read_lines(alloc: Global, builder: Builder, text: &[u8]) -> Result<RawScript, TextError>
+fn read_lines(alloc: Global, reached: Reached, text: &[u8]) -> Result<RawScript, TextError>
     requires { length text.now ≤ 1048576 }
-    ensures { GivesText (λ raw. raw) result (read_lines 2 builder (text_lines text.now)) }
+    ensures { GivesText (λ raw. raw) result (read_lines 2 reached (text_lines text.now)) }
 {
     let mut number: u32 = 2;
-    let mut builder = builder;
+    let mut reached = reached;
     let mut left = text;
     'lines: while !left.is_empty() {
         let (line, rest) = cut(left, b'\n');
-        match read_line(alloc, number, builder, line) {
-            Ok(next) => builder = next,
+        match read_line(alloc, number, reached, line) {
+            Ok(next) => reached = next,
             Err(error) => return Err(in_line(number, error)),
         }
         number += 1;
         left = behind(rest);
     }
-    ended_at(number, builder)
+    ended_at(number, reached)
 }
 
 /// Line 1, the lines behind it, and the end. The text isn't empty.
@@ -208,7 +218,7 @@ fn read_some(alloc: Global, text: &[u8]) -> Result<RawScript, TextError>
 {
     let (line, rest) = cut(text, b'\n');
     match head_line(alloc, line) {
-        Ok(builder) => read_lines(alloc, builder, behind(rest)),
+        Ok(reached) => read_lines(alloc, reached, behind(rest)),
         Err(error) => Err(in_line(1, error)),
     }
 }

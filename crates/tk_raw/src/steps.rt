@@ -16,7 +16,9 @@ use tk_types::Why;
 
 /// The most devices, interrupts and bodies of a script.
 const MOST_DEVICES: usize = 8;
+
 const MOST_IRQS: usize = 1024;
+
 const MOST_BODIES: usize = 255;
 
 /// Whether a `device` line may stand next.
@@ -239,7 +241,6 @@ pub(crate) fn step(
         boot,
         bodies,
         current,
-        lines,
     } = builder;
     let builder = Builder {
         devices,
@@ -248,7 +249,6 @@ pub(crate) fn step(
         boot,
         bodies,
         current: None,
-        lines,
     };
     match current {
         None => outside(alloc, builder, first, words),

@@ -2,3 +2,9 @@ pub mod Appends
 pub mod Items
 pub mod Loops
 pub mod BuiltLoops
+pub mod NameLaws
+pub mod ArgumentLaws
+pub mod StatementLaws
+pub mod Weaving
+pub mod BodyLaws
+pub mod ScriptLaws

@@ -13,6 +13,9 @@ mod read;
 mod resolving;
 
 pub use print_lines::print_script;
+#[cfg(test)]
+mod tests;
+
 pub use built::first_unbuilt;
 pub use read::{read_built_script, read_script};
 pub use tk_types::{

@@ -1,5 +1,5 @@
 -- Texts that are refused, and one that isn't.
-use Rattle.std.specs.Prelude.{◌≡◌, refl, ℕ, List, [], ◌∷◌, ◌++◌, map, None, codes, Result, Ok, Err}
+use Rattle.std.specs.Prelude.{◌≡◌, refl, ℕ, List, [], ◌∷◌, ◌++◌, None, codes, Result, Ok, Err}
 use Rattle.tk_types.specs.declared.script.BodyKind.TheVariants.{Task}
 use Rattle.tk_types.specs.declared.why.Why.TheVariants as whys
 use Rattle.tk_raw.specs.declared.head.Head.TheVariants as heads

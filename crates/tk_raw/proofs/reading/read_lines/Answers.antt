@@ -1,5 +1,5 @@
 -- One line after another.
-use Rattle.std.proofs.Common.{ap, ◌∙◌, sym, subst, rules, ◌≡◌, ◌<◌, ◌≤◌, ◌+◌, length, ℕ, List, ◌∷◌}
+use Rattle.std.proofs.Common.{ap, sym, subst, rules, ◌≡◌, ◌<◌, ◌≤◌, ◌+◌, length, ℕ, List}
 use Rattle.std.specs.Option.{option_copied}
 use Rattle.tk_raw.specs.Lines.{text_lines}
 use Rattle.tk_raw.proofs.TextLoops.{next_line, passed_here, refused_here, at_end, room_behind}

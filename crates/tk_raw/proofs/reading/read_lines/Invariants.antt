@@ -6,7 +6,7 @@ use Rattle.tk_raw.proofs.reading.read_lines.Given as goal
 
 abbrev pub invariant-lines : goal.invariant-lines
 invariant-lines l = record {
-  same : read_lines l.number l.builder (text_lines l.left) ≡ read_lines 2 l.fn.builder (text_lines l.text);
+  same : read_lines l.number l.reached (text_lines l.left) ≡ read_lines 2 l.fn.reached (text_lines l.text);
   room : l.number + length l.left ≤ 1048578;
 }
 
