@@ -113,10 +113,10 @@ args_takes raws bodies (kind ∷ form) (piece ∷ list) front all same calls e f
     let one = arg_takes raws bodies kind piece b.0 same t.0 b.1 fits.0 in
     let rest = args_takes raws bodies form list (front ++ b.0 ∷ []) all same t.1 b.2 fits.1 in
     record {
-        more = b.0 ∷ rest.more;
-        is = rest.is ∙ append_assoc front (b.0 ∷ []) rest.more;
-        words = rw (one.word, rest.words) refl;
-        fits = (one.fits, rest.fits);
+      more = b.0 ∷ rest.more;
+      is = rest.is ∙ append_assoc front (b.0 ∷ []) rest.more;
+      words = rw (one.word, rest.words) refl;
+      fits = (one.fits, rest.fits);
     }
 
 -- ---- what may stand is found again
@@ -204,8 +204,8 @@ body_again : (raws : List RawBody) (bodies : List Body) (kind : ArgumentKind) (w
 body_again raws bodies kind wanted n alike is reads fits =
     let piece = body_piece_is bodies n is.from_one in
     record {
-        found = ap (arg_of raws kind) piece ∙ (reads (body_word bodies n) ∙ ap body_arg (number_again raws bodies wanted n alike.same alike.differ alike.few is));
-        fits = subst (FitsPiece kind) (sym piece) (fits (body_word bodies n) (word_named raws bodies wanted n alike is));
+      found = ap (arg_of raws kind) piece ∙ (reads (body_word bodies n) ∙ ap body_arg (number_again raws bodies wanted n alike.same alike.differ alike.few is));
+      fits = subst (FitsPiece kind) (sym piece) (fits (body_word bodies n) (word_named raws bodies wanted n alike is));
     }
 
 none_again : (raws : List RawBody) (bodies : List Body) (kind : ArgumentKind) (n : ℕ) → n ≡ 0 → arg_of raws kind pieces.Dash ≡ Ok (args.Body 0) → FitsPiece kind pieces.Dash → AgainArg raws bodies kind (args.Body n)

@@ -62,14 +62,14 @@ body_takes raws bodies raw body same is found =
     let P : ℕ → Type 0 = λ n. PlacesRise 0 n body.labels in
     let count : 0 + length body.stmts ≡ length body.stmts = omega arith in
     record {
-        lines = same_lines R bodies raw body found.name found.kind (λ line stmt read. read_words raws bodies body line stmt same read) found.woven;
-        is = record {
-            name = subst (IsName 16) found.name is.name;
-            labels = woven_named R 0 raw.items body.labels body.stmts is.items found.woven;
-            labels_differ = ap all_differ (sym (woven_names R 0 raw.items body.labels body.stmts found.woven)) ∙ is.labels_differ;
-            places = subst P count (woven_rise R 0 0 raw.items body.labels body.stmts (omega arith) found.woven);
-            statements = woven_all R (FitsStmt bodies body) 0 raw.items body.labels body.stmts (λ line stmt read. (stmt_takes raws bodies body line.head line.pieces stmt same read.found read.fits).fits) found.woven;
-        };
+      lines = same_lines R bodies raw body found.name found.kind (λ line stmt read. read_words raws bodies body line stmt same read) found.woven;
+      is = record {
+        name = subst (IsName 16) found.name is.name;
+        labels = woven_named R 0 raw.items body.labels body.stmts is.items found.woven;
+        labels_differ = ap all_differ (sym (woven_names R 0 raw.items body.labels body.stmts found.woven)) ∙ is.labels_differ;
+        places = subst P count (woven_rise R 0 0 raw.items body.labels body.stmts (omega arith) found.woven);
+        statements = woven_all R (FitsStmt bodies body) 0 raw.items body.labels body.stmts (λ line stmt read. (stmt_takes raws bodies body line.head line.pieces stmt same read.found read.fits).fits) found.woven;
+      };
     }
 
 -- how the lines of a body are written
@@ -105,7 +105,7 @@ unfolding body_of
 body_again raws bodies numbers raw body alike is written =
     let labels : labels_of raw.items ≡ body.labels = woven_labels (Writes bodies body) 0 raw.items body.labels [] body.stmts written.woven in
     let stmts : stmts_from raws body.labels body.kind (drop 1 numbers) raw.items [] ≡ Ok body.stmts =
-        woven_stmts (Writes bodies body) raws body.labels body.kind 0 (drop 1 numbers) raw.items body.labels [] body.stmts (λ line stmt w. (again raws bodies body line stmt alike is w).found) written.woven in
+    woven_stmts (Writes bodies body) raws body.labels body.kind 0 (drop 1 numbers) raw.items body.labels [] body.stmts (λ line stmt w. (again raws bodies body line stmt alike is w).found) written.woven in
     rw (labels, written.kind, written.name, stmts) refl
 
 -- and it has the lines of the body, and is one before its names are looked up
@@ -115,10 +115,10 @@ pub record AgainBody (bodies : List Body) (raw : RawBody) (body : Body) : Type 0
 
 pub body_is : (raws : List RawBody) (bodies : List Body) (raw : RawBody) (body : Body) → Alike raws bodies → IsBody bodies body → WrittenBody bodies raw body → AgainBody bodies raw body
 body_is raws bodies raw body alike is written = record {
-    lines = same_lines (Writes bodies body) bodies raw body written.name written.kind (λ line stmt w. (again raws bodies body line stmt alike is w).words) written.woven;
-    is = record {
-        name = subst (IsName 16) (sym written.name) is.name;
-        labels_differ = ap all_differ (woven_names (Writes bodies body) 0 raw.items body.labels body.stmts written.woven) ∙ is.labels_differ;
-        items = woven_fits (Writes bodies body) 0 raw.items body.labels body.stmts (λ line stmt w. (again raws bodies body line stmt alike is w).fits) is.labels written.woven;
-    };
+  lines = same_lines (Writes bodies body) bodies raw body written.name written.kind (λ line stmt w. (again raws bodies body line stmt alike is w).words) written.woven;
+  is = record {
+    name = subst (IsName 16) (sym written.name) is.name;
+    labels_differ = ap all_differ (woven_names (Writes bodies body) 0 raw.items body.labels body.stmts written.woven) ∙ is.labels_differ;
+    items = woven_fits (Writes bodies body) 0 raw.items body.labels body.stmts (λ line stmt w. (again raws bodies body line stmt alike is w).fits) is.labels written.woven;
+  };
 }

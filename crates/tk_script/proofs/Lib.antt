@@ -8,3 +8,4 @@ pub mod StatementLaws
 pub mod Weaving
 pub mod BodyLaws
 pub mod ScriptLaws
+pub mod Readings

@@ -116,12 +116,12 @@ if_takes raws bodies kind name i n (Some raw) same is named e =
     let back : (i + 1) - 1 ≡ i = omega arith in
     let low : 1 ≤ i + 1 = omega arith in
     let word : option_map (λ (body : Body). body.name) (slice_get bodies ((i + 1) - 1)) ≡ Some name =
-        rw back (sym (name_in raws bodies i same) ∙ (ap (option_map (λ (r : RawBody). r.name)) is ∙ named)) in
+    rw back (sym (name_in raws bodies i same) ∙ (ap (option_map (λ (r : RawBody). r.name)) is ∙ named)) in
     let kinds : option_map (λ (body : Body). body.kind) (slice_get bodies ((i + 1) - 1)) ≡ Some kind =
-        rw back (sym (kind_in raws bodies i same) ∙ (ap (option_map (λ (r : RawBody). r.kind)) is ∙ ap Some (kinds_same raw.kind kind k.0))) in
+    rw back (sym (kind_in raws bodies i same) ∙ (ap (option_map (λ (r : RawBody). r.kind)) is ∙ ap Some (kinds_same raw.kind kind k.0))) in
     subst (Found bodies kind name) number (record {
-        word = numbered_word bodies (i + 1) low ∙ name_or (slice_get bodies ((i + 1) - 1)) name word;
-        is = record { from_one = low; is = kinds };
+      word = numbered_word bodies (i + 1) low ∙ name_or (slice_get bodies ((i + 1) - 1)) name word;
+      is = record { from_one = low; is = kinds };
     })
 
 at_takes : (raws : List RawBody) (bodies : List Body) (kind : BodyKind) (name : List ℕ) (n : ℕ) (place : Option ℕ) → SameBodies raws bodies → position (λ (raw : RawBody). bytes_eq raw.name name) raws ≡ place → number_at raws kind place ≡ Ok n → Found bodies kind name n

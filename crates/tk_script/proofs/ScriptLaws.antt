@@ -41,9 +41,9 @@ bodies_found raws numbers (raw ∷ list) front all fits e =
     let more = bodies_found raws (behind_body raw numbers) list b.0 all fits.1 b.2 in
     let next : front ++ c.0 ∷ [] ≡ b.0 = sure_is (front ++ c.0 ∷ []) b.0 c.2 in
     record {
-        bodies = c.0 ∷ more.bodies;
-        is = more.is ∙ (ap (λ (f : List Body). f ++ more.bodies) (sym next) ∙ append_assoc front (c.0 ∷ []) more.bodies);
-        each = (body_found raws numbers raw c.0 fits.0 c.1, more.each);
+      bodies = c.0 ∷ more.bodies;
+      is = more.is ∙ (ap (λ (f : List Body). f ++ more.bodies) (sym next) ∙ append_assoc front (c.0 ∷ []) more.bodies);
+      each = (body_found raws numbers raw c.0 fits.0 c.1, more.each);
     }
 
 each_same : (R : RawBody → Body → Type 0) (raws : List RawBody) (bodies : List Body) → ((raw : RawBody) (body : Body) → R raw body → (raw.name ≡ body.name) × (raw.kind ≡ body.kind)) → Each R raws bodies → SameBodies raws bodies
@@ -95,7 +95,7 @@ each_of R Q P (raw ∷ raws) (body ∷ bodies) holds all each = (holds raw body 
 
 same_length : (raws : List RawBody) (bodies : List Body) → SameBodies raws bodies → length raws ≡ length bodies
 same_length raws bodies same =
-    sym (length-map (λ (raw : RawBody). raw.name) raws) ∙ (ap length same.names ∙ length-map (λ (body : Body). body.name) bodies)
+    sym (length-map raws (λ (raw : RawBody). raw.name)) ∙ (ap length same.names ∙ length-map bodies (λ (body : Body). body.name))
 
 -- the lines of a script with its names looked up
 pub same_script_lines : (raw : RawScript) (boot : ℕ) (bodies : List Body) → body_word bodies boot ≡ raw.boot.body → flat_map (body_lines bodies) bodies ≡ flat_map raw_body_lines raw.bodies
@@ -124,20 +124,20 @@ script_takes raw script is e =
     let lines = each_lines (TakenBody c.0) c.0 raw.bodies c.0 (λ r body t. t.lines) taken in
     let count = same_length raw.bodies c.0 same in
     subst (TakenScript raw) (sure_is (made b.0 c.0) script c.2) (record {
-        lines = same_script_lines raw b.0 c.0 boot.word lines;
-        is = record {
-            few_devices = is.few_devices;
-            devices = is.devices;
-            devices_differ = is.devices_differ;
-            pace = is.pace;
-            few_irqs = is.few_irqs;
-            irqs = is.irqs;
-            boot_body = boot.is;
-            boot_priority = is.boot_priority;
-            few_bodies = subst (IsBetween 1 255) count is.few_bodies;
-            bodies_differ = ap all_differ (sym same.names) ∙ is.bodies_differ;
-            bodies = each_body (TakenBody c.0) (IsBody c.0) raw.bodies c.0 (λ r body t. t.is) taken;
-        };
+      lines = same_script_lines raw b.0 c.0 boot.word lines;
+      is = record {
+        few_devices = is.few_devices;
+        devices = is.devices;
+        devices_differ = is.devices_differ;
+        pace = is.pace;
+        few_irqs = is.few_irqs;
+        irqs = is.irqs;
+        boot_body = boot.is;
+        boot_priority = is.boot_priority;
+        few_bodies = subst (IsBetween 1 255) count is.few_bodies;
+        bodies_differ = ap all_differ (sym same.names) ∙ is.bodies_differ;
+        bodies = each_body (TakenBody c.0) (IsBody c.0) raw.bodies c.0 (λ r body t. t.is) taken;
+      };
     })
 
 -- ---- what may stand is found again
@@ -194,24 +194,24 @@ script_again script numbers is =
     let found = bodies_again texts.raws bodies (drop 1 (boot_numbers raw)) texts.raws [] bodies alike is.bodies texts.each in
     let count = same_length texts.raws bodies same in
     record {
-        raw = raw;
-        text = record {
-            lines = same_script_lines raw script.boot.body bodies refl lines;
-            numbers_are = refl;
-            found = rw (boot, found) refl;
-            is = λ numbered. record {
-                few_devices = is.few_devices;
-                devices = is.devices;
-                devices_differ = is.devices_differ;
-                pace = is.pace;
-                few_irqs = is.few_irqs;
-                irqs = is.irqs;
-                boot_body = word_named texts.raws bodies Task script.boot.body alike is.boot_body;
-                boot_priority = is.boot_priority;
-                few_bodies = subst (IsBetween 1 255) (sym count) is.few_bodies;
-                bodies_differ = ap all_differ same.names ∙ is.bodies_differ;
-                bodies = each_raw (AgainBody bodies) IsRawBody texts.raws bodies (λ r body a. a.is) each;
-                numbered = numbered;
-            };
+      raw = raw;
+      text = record {
+        lines = same_script_lines raw script.boot.body bodies refl lines;
+        numbers_are = refl;
+        found = rw (boot, found) refl;
+        is = λ numbered. record {
+          few_devices = is.few_devices;
+          devices = is.devices;
+          devices_differ = is.devices_differ;
+          pace = is.pace;
+          few_irqs = is.few_irqs;
+          irqs = is.irqs;
+          boot_body = word_named texts.raws bodies Task script.boot.body alike is.boot_body;
+          boot_priority = is.boot_priority;
+          few_bodies = subst (IsBetween 1 255) (sym count) is.few_bodies;
+          bodies_differ = ap all_differ same.names ∙ is.bodies_differ;
+          bodies = each_raw (AgainBody bodies) IsRawBody texts.raws bodies (λ r body a. a.is) each;
+          numbered = numbered;
         };
+      };
     }

@@ -329,9 +329,9 @@ may_again kind _ is = refl
 call_again : (raws : List RawBody) (bodies : List Body) (body : Body) (name : CallName) (list : List Arg) → Alike raws bodies → MayCall body.kind name → FitsArgs bodies (form_of name) list → AgainStmt raws bodies body (record { head = heads.Call name; pieces = arg_pieces bodies list }) (stmts.Call name list)
 unfolding stmt_by call_of call_from raw_stmt_words head_text form_of_head stmt_words
 call_again raws bodies body name list alike may fits = record {
-    found = rw (may_again body.kind name may, args_again raws bodies (form_of name) list [] alike fits) refl;
-    words = rw (args_same bodies (form_of name) list) refl;
-    fits = args_fit raws bodies (form_of name) list alike fits;
+  found = rw (may_again body.kind name may, args_again raws bodies (form_of name) list [] alike fits) refl;
+  words = rw (args_same bodies (form_of name) list) refl;
+  fits = args_fit raws bodies (form_of name) list alike fits;
 }
 
 pub stmt_again : (raws : List RawBody) (bodies : List Body) (body : Body) (stmt : Stmt) → Alike raws bodies → Labels body.labels → FitsStmt bodies body stmt → AgainStmt raws bodies body (raw_stmt bodies body.labels stmt) stmt

@@ -206,9 +206,9 @@ items_take raws all kind place numbers (items.Stmt raw ∷ rest) front whole e f
     let more = items_take raws all kind (place + 1) (drop 1 numbers) rest b.0 whole b.2 fits.1 in
     let next : front ++ c.0 ∷ [] ≡ b.0 = sure_is (front ++ c.0 ∷ []) b.0 c.2 in
     record {
-        stmts = c.0 ∷ more.stmts;
-        is = more.is ∙ (ap (λ (f : List Stmt). f ++ more.stmts) (sym next) ∙ append_assoc front (c.0 ∷ []) more.stmts);
-        woven = (record { found = line_ok (first_number numbers) (stmt_by raws all kind raw.head raw.pieces) c.0 c.1; fits = fits.0 }, more.woven);
+      stmts = c.0 ∷ more.stmts;
+      is = more.is ∙ (ap (λ (f : List Stmt). f ++ more.stmts) (sym next) ∙ append_assoc front (c.0 ∷ []) more.stmts);
+      woven = (record { found = line_ok (first_number numbers) (stmt_by raws all kind raw.head raw.pieces) c.0 c.1; fits = fits.0 }, more.woven);
     }
 
 -- ---- from statements to lines
@@ -244,8 +244,8 @@ here_or_later (suc place) (suc at) above = elim (here_or_later place at (omega a
 label_first : (write : Stmt → RawStmt) (P : Stmt → Type 0) (place : ℕ) (label : Label) (labels : List Label) (stmts : List Stmt) → label.place ≡ place → Lines write P place labels stmts → Lines write P place (label ∷ labels) stmts
 unfolding Woven
 label_first write P place label labels stmts is more = record {
-    lines = items.Label label.name ∷ more.lines;
-    woven = (ap (λ (n : ℕ). let made : Label = record { name = label.name; place = n } in made) is, more.woven);
+  lines = items.Label label.name ∷ more.lines;
+  woven = (ap (λ (n : ℕ). let made : Label = record { name = label.name; place = n } in made) is, more.woven);
 }
 
 weave_to : (write : Stmt → RawStmt) (P : Stmt → Type 0) (label : Label) (labels : List Label) (place : ℕ) (stmts : List Stmt)
@@ -259,14 +259,14 @@ weave_to write P label labels place [] behind rise all =
     label_first write P place label labels [] here (behind place [] (subst Q here rise.1) tt)
 weave_to write P label labels place (stmt ∷ stmts) behind rise all =
     elim (here_or_later place label.place rise.0) [
-        inl here ↦
-            (let Q : ℕ → Type 0 = λ n. PlacesRise n (place + length (stmt ∷ stmts)) labels in
-            label_first write P place label labels (stmt ∷ stmts) here (behind place (stmt ∷ stmts) (subst Q here rise.1) all))
+      | inl here ↦
+          (let Q : ℕ → Type 0 = λ n. PlacesRise n (place + length (stmt ∷ stmts)) labels in
+          label_first write P place label labels (stmt ∷ stmts) here (behind place (stmt ∷ stmts) (subst Q here rise.1) all))
       | inr later ↦
-            (let count : place + length (stmt ∷ stmts) ≡ (place + 1) + length stmts = omega arith in
-            let Q : ℕ → Type 0 = λ n. PlacesRise label.place n labels in
-            let more = weave_to write P label labels (place + 1) stmts behind (later, subst Q count rise.1) all.1 in
-            record { lines = items.Stmt (write stmt) ∷ more.lines; woven = (record { is = refl; holds = all.0 }, more.woven) })
+          (let count : place + length (stmt ∷ stmts) ≡ (place + 1) + length stmts = omega arith in
+          let Q : ℕ → Type 0 = λ n. PlacesRise label.place n labels in
+          let more = weave_to write P label labels (place + 1) stmts behind (later, subst Q count rise.1) all.1 in
+          record { lines = items.Stmt (write stmt) ∷ more.lines; woven = (record { is = refl; holds = all.0 }, more.woven) })
     ]
 
 -- there are lines with these labels and statements

@@ -9,7 +9,9 @@ use tk_types::{BodyKind, CallName};
 
 /// Whether `device`, `pace` and `irq` lines are built.
 const DEVICES_ARE_BUILT: bool = false;
+
 const PACE_IS_BUILT: bool = false;
+
 const INTERRUPTS_ARE_BUILT: bool = false;
 
 /// Whether bodies of that kind are built.

@@ -3,6 +3,7 @@
 
 mod built;
 mod errors;
+pub mod laws;
 mod lines;
 mod names;
 mod numbers;
@@ -13,6 +14,7 @@ mod read;
 mod resolving;
 
 pub use print_lines::print_script;
+
 #[cfg(test)]
 mod tests;
 

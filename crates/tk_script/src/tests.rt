@@ -5,8 +5,7 @@ use std::alloc::Global;
 use std::test::Fail;
 use tk_types::{OutOfMemory, Why};
 
-const LOOSE: &[u8] =
-    b"utk  1\n# note\n\nboot main 10\nbody main task\n  say   hello\nend";
+const LOOSE: &[u8] = b"utk  1\n# note\n\nboot main 10\nbody main task\n  say   hello\nend";
 
 const PLAIN: &[u8] = b"utk 1\nboot main 10\nbody main task\nsay hello\nend\n";
 
@@ -64,7 +63,11 @@ fn each_reason_has_its_line(rt: HostRuntime) -> Result<(), Fail> {
         ("return 0\nend\n", 4, Why::Kind),
         ("# note\ntk_cre_tsk - other 1 1\nend\n", 5, Why::Unknown),
         ("tk_cre_tsk - h 1 1\nend\nbody h hand\nend\n", 4, Why::Kind),
-        ("label a\nend\nbody other task\njump a\nend\n", 7, Why::Unknown),
+        (
+            "label a\nend\nbody other task\njump a\nend\n",
+            7,
+            Why::Unknown,
+        ),
         ("jump x\nend\nbody other task\nhalt 1\nend\n", 7, Why::Count),
         ("end\npace 1\n", 5, Why::Order),
         ("end\nend\n", 5, Why::Order),
@@ -77,8 +80,16 @@ fn each_reason_has_its_line(rt: HostRuntime) -> Result<(), Fail> {
         ("", 1, Why::Head),
         ("utk 3\n", 1, Why::Head),
         ("utk 1\ntick 5\n", 2, Why::Order),
-        ("utk 1\n\npace 7\nboot none 1\nbody main task\nend\n", 4, Why::Unknown),
-        ("utk 1\nirq 1 1\nboot h 1\nbody h hand\njump x\nend\n", 3, Why::Kind),
+        (
+            "utk 1\n\npace 7\nboot none 1\nbody main task\nend\n",
+            4,
+            Why::Unknown,
+        ),
+        (
+            "utk 1\nirq 1 1\nboot h 1\nbody h hand\njump x\nend\n",
+            3,
+            Why::Kind,
+        ),
         ("utk 1\nboot main 141\n", 2, Why::Number),
     ];
     for (text, line, why) in whole {
@@ -112,14 +123,38 @@ fn lines_and_texts_have_a_limit(rt: HostRuntime) -> Result<(), Fail> {
 fn the_first_line_not_built_is_told(rt: HostRuntime) -> Result<(), Fail> {
     let alloc = rt.alloc();
     let cases: [(&str, Option<(u32, Why)>); 8] = [
-        ("utk 1\nboot main 10\nbody main task\ntk_cre_tsk - main 5 512\ntk_sta_tsk 2 0\ntk_slp_tsk -1\ntk_wup_tsk 2\nsay hello\ntk_ext_tsk\nend\n", None),
-        ("utk 1\ndevice a log\nboot main 10\nbody main task\nend\n", Some((2, Why::Later))),
-        ("utk 1\n\npace 1\nirq 1 1\nboot main 10\nbody main task\nend\n", Some((3, Why::Later))),
-        ("utk 1\nirq 1 1\nboot main 10\nbody main task\nend\n", Some((2, Why::Later))),
-        ("utk 1\nboot main 10\nbody main task\nlabel a\n# note\ntk_slp_tsk 5\nend\n", Some((6, Why::Later))),
-        ("utk 1\nboot main 10\nbody main task\nend\nbody h hand\nend\n", Some((5, Why::Later))),
-        ("utk 1\nboot main 10\nbody main task\nend\nbody other task\nnop\nend\n", Some((6, Why::Later))),
-        ("utk 1\npace 1\nboot main 10\nbody main task\njump x\nend\n", Some((5, Why::Unknown))),
+        (
+            "utk 1\nboot main 10\nbody main task\ntk_cre_tsk - main 5 512\ntk_sta_tsk 2 0\ntk_slp_tsk -1\ntk_wup_tsk 2\nsay hello\ntk_ext_tsk\nend\n",
+            None,
+        ),
+        (
+            "utk 1\ndevice a log\nboot main 10\nbody main task\nend\n",
+            Some((2, Why::Later)),
+        ),
+        (
+            "utk 1\n\npace 1\nirq 1 1\nboot main 10\nbody main task\nend\n",
+            Some((3, Why::Later)),
+        ),
+        (
+            "utk 1\nirq 1 1\nboot main 10\nbody main task\nend\n",
+            Some((2, Why::Later)),
+        ),
+        (
+            "utk 1\nboot main 10\nbody main task\nlabel a\n# note\ntk_slp_tsk 5\nend\n",
+            Some((6, Why::Later)),
+        ),
+        (
+            "utk 1\nboot main 10\nbody main task\nend\nbody h hand\nend\n",
+            Some((5, Why::Later)),
+        ),
+        (
+            "utk 1\nboot main 10\nbody main task\nend\nbody other task\nnop\nend\n",
+            Some((6, Why::Later)),
+        ),
+        (
+            "utk 1\npace 1\nboot main 10\nbody main task\njump x\nend\n",
+            Some((5, Why::Unknown)),
+        ),
     ];
     for (text, want) in cases {
         assert_eq!(rt; refused_built(alloc, text)?, want, "{text}");
