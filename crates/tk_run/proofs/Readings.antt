@@ -1,47 +1,62 @@
 -- The input within the limit decides how it is read, and what is read is spelled.
-use Rattle.std.proofs.Common.{◌≡◌, ◌⊎◌, ℕ, ◌+◌, ◌<◌, ◌≤◌, Bool, true, false, List, take, length, Option, Some, None, inl, inr, refl, sym, ap, ◌∙◌, arith}
+use Rattle.std.proofs.Common.{◌≡◌, ◌⊎◌, ℕ, ◌+◌, ◌<◌, ◌≤◌, List, take, length, Result, Ok, Err, inl, inr, refl, sym, ap, ◌∙◌, arith}
 use Rattle.std.proofs.lemmas.List.{take_all, length-take-le}
-use Rattle.std.proofs.lemmas.Bool.{lt-leb}
+use Rattle.std.proofs.lemmas.Bool.{lt-ltb}
+use Rattle.std.proofs.lemmas.Bool.Decides.{leb_tells}
 use Rattle.tk_types.specs.declared.script.Script.{Script}
 use Rattle.tk_types.specs.declared.script.Reading.{Reading}
 use Rattle.tk_types.specs.declared.script.Reading.TheVariants as readings
-use Rattle.tk_types.specs.declared.run.Mode.{Mode}
-use Rattle.tk_types.specs.declared.run.End.{End}
-use Rattle.tk_types.specs.declared.run.End.TheVariants as ends
+use Rattle.tk_types.specs.declared.why.Why.TheVariants.{Long}
+use Rattle.tk_model.specs.ScriptText.{Spells}
 use Rattle.tk_model.specs.Statements.{IsRunnable}
-use Rattle.tk_model.specs.ScriptReading.{answer_first, reading_first}
-use Rattle.tk_model.specs.Trace.{Trace, trace}
-use Rattle.tk_model.proofs.FirstTakes.{reading_takes}
-use Rattle.tk_run.specs.declared.command.Command.TheVariants.{Run}
-use Rattle.tk_run.specs.declared.status.Status.{Status}
-use Rattle.tk_run.specs.declared.status.Status.TheVariants as statuses
-use Rattle.tk_run.specs.Readings.{Spells, IsRunnableReading, reading_of}
-use Rattle.tk_run.specs.Outcomes.{status_of_end, reading_outcome, run_outcome}
-use Rattle.tk_run.specs.Answers.{OutcomeAnswers, HeadlineAnswers, IsDone}
+use Rattle.tk_raw.specs.RawReading.{Refusal, raw_reading}
+use Rattle.tk_raw.specs.declared.raw.RawScript.{RawScript}
+use Rattle.tk_script.specs.Built.{reading_built, resolved_built}
+use Rattle.tk_script.specs.Reading.{answer, reading}
+use Rattle.tk_script.specs.Resolving.{◌>>=◌, resolved}
+use Rattle.tk_script.proofs.Readings.{built_found, reading_takes}
+use Rattle.tk_run.specs.Readings.{IsRunnableReading, reading_all, reading_of}
 
 -- ---- the limit
 
-unread_long : (text : List ℕ) → 1048576 < length text → reading_first text ≡ None
-unfolding reading_first
-unread_long text long = rw (lt-leb (length text) 1048576 long) refl
+long_is_refused : (text : List ℕ) → 1048576 < length text → raw_reading text ≡ Err (0, Long)
+unfolding raw_reading
+long_is_refused text long = rw (lt-ltb 1048576 (length text) long) refl
+
+within_or_past : (n limit : ℕ) → (n ≤ limit) ⊎ (limit < n)
+within_or_past n limit = elim (leb_tells n limit) [ inl test ↦ inl test.1 | inr test ↦ inr test.1 ]
+
+raw_decides : (text input : List ℕ) → text ≡ take (1048576 + 1) input → (length input ≤ 1048576) ⊎ (1048576 < length input) → raw_reading text ≡ raw_reading input
+raw_decides text input is (inl short) = ap raw_reading (is ∙ take_all (1048576 + 1) input (omega arith))
+raw_decides text input is (inr long) =
+    let size : length text ≡ 1048576 + 1 = ap length is ∙ length-take-le (1048576 + 1) input (omega arith) in
+    long_is_refused text (omega arith) ∙ sym (long_is_refused input long)
 
 -- a text and its front up to one byte past the limit are read alike
-pub front_decides : (text input : List ℕ) → text ≡ take (1048576 + 1) input → (length input ≤ 1048576) ⊎ (1048576 < length input) → reading_of text ≡ reading_of input
-unfolding reading_of
-front_decides text input is (inl short) = ap (λ (l : List ℕ). answer_first (reading_first l)) (is ∙ take_all (1048576 + 1) input (omega arith))
-front_decides text input is (inr long) =
-    let size : length text ≡ 1048576 + 1 = ap length is ∙ length-take-le (1048576 + 1) input (omega arith) in
-    ap answer_first (unread_long text (omega arith) ∙ sym (unread_long input long))
+front_decides : (text input : List ℕ) → text ≡ take (1048576 + 1) input → raw_reading text ≡ raw_reading input
+front_decides text input is = raw_decides text input is (within_or_past (length input) 1048576)
+
+pub reading_of_front : (text input : List ℕ) → text ≡ take (1048576 + 1) input → reading_of text ≡ reading_of input
+unfolding reading_of reading_built
+reading_of_front text input is = ap (λ (raw : Result RawScript Refusal). answer (raw >>= resolved_built)) (front_decides text input is)
+
+pub reading_all_front : (text input : List ℕ) → text ≡ take (1048576 + 1) input → reading_all text ≡ reading_all input
+unfolding reading_all reading
+reading_all_front text input is = ap (λ (raw : Result RawScript Refusal). answer (raw >>= resolved)) (front_decides text input is)
 
 -- ---- what is read is spelled
 
-script_was_first : (read : Option Script) (script : Script) → answer_first read ≡ readings.Script script → read ≡ Some script
-script_was_first (Some other) script is = cc
-script_was_first None script is = absurd (cc)
+script_was_read : (read : Result Script Refusal) (script : Script) → answer read ≡ readings.Script script → read ≡ Ok script
+script_was_read (Ok other) script is = cc
+script_was_read (Err refusal) script is = absurd (cc)
 
 pub spelled : (text : List ℕ) (script : Script) → reading_of text ≡ readings.Script script → Spells text script
 unfolding reading_of
-spelled text script is = reading_takes text script (script_was_first (reading_first text) script is)
+spelled text script is = built_found text script (script_was_read (reading_built text) script is)
+
+pub all_spelled : (text : List ℕ) (script : Script) → reading_all text ≡ readings.Script script → Spells text script
+unfolding reading_all
+all_spelled text script is = reading_takes text script (script_was_read (reading text) script is)
 
 -- what is spelled can be run
 pub spelled_runs : (text : List ℕ) (script : Script) → Spells text script → IsRunnable script
@@ -50,35 +65,3 @@ spelled_runs text script is = record { few_devices = is.script_is.few_devices }
 pub reading_runs : (text : List ℕ) (reading : Reading) → reading ≡ reading_of text → IsRunnableReading reading
 reading_runs text (readings.Script script) is = spelled_runs text script (spelled text script (sym is))
 reading_runs text (readings.Refused line why) is = tt
-
--- ---- the headline
-
-done_end : (end : End) → status_of_end end ≡ statuses.Done → IsDone end
-done_end ends.Idle is = inl refl
-done_end ends.Halt is = inr refl
-done_end ends.Budget is = absurd (cc)
-
-budget_end : (end : End) → status_of_end end ≡ statuses.Budget → end ≡ ends.Budget
-budget_end ends.Idle is = absurd (cc)
-budget_end ends.Halt is = absurd (cc)
-budget_end ends.Budget is = refl
-
-read_headline : (mode : Mode) (budget : ℕ) (input : List ℕ) (old new : Option (List ℕ)) (reading : Reading) (status : Status) → reading_of input ≡ reading
-    → OutcomeAnswers (reading_outcome mode budget reading) old new status → HeadlineAnswers (Some (Run mode budget)) input old new status
-read_headline mode budget input old new (readings.Script script) statuses.Done is answers =
-    (script, spelled input script is, done_end (trace script mode budget).end answers.0, answers.1)
-read_headline mode budget input old new (readings.Script script) statuses.Budget is answers =
-    (script, spelled input script is, budget_end (trace script mode budget).end answers.0, answers.1)
-read_headline mode budget input old new (readings.Refused line why) statuses.Done is answers = absurd (cc (answers.0))
-read_headline mode budget input old new (readings.Refused line why) statuses.Budget is answers = absurd (cc (answers.0))
-read_headline mode budget input old new _ (statuses.Refused line why) is answers = tt
-read_headline mode budget input old new _ statuses.ReadFault is answers = tt
-read_headline mode budget input old new _ statuses.WriteFault is answers = tt
-read_headline mode budget input old new _ statuses.NoMemory is answers = tt
-read_headline mode budget input old new _ statuses.Usage is answers = tt
-
--- the outcome of a run gives the headline
-pub headline : (mode : Mode) (budget : ℕ) (input : List ℕ) (old new : Option (List ℕ)) (status : Status)
-    → OutcomeAnswers (run_outcome mode budget input) old new status → HeadlineAnswers (Some (Run mode budget)) input old new status
-unfolding run_outcome
-headline mode budget input old new status answers = read_headline mode budget input old new (reading_of input) status refl answers

@@ -5,14 +5,13 @@ use Rattle.tk_types.specs.declared.run.Mode.{Mode}
 use Rattle.tk_types.specs.declared.run.End.{End}
 use Rattle.tk_types.specs.declared.run.End.TheVariants as ends
 use Rattle.tk_ports.specs.Streams.{Appends, AppendsFront}
-use Rattle.tk_model.specs.Trace.{Trace, trace}
+use Rattle.tk_model.specs.Trace.{trace}
 use Rattle.tk_model.specs.LineText.{text_of_lines}
 use Rattle.tk_run.specs.declared.command.Command.{Command}
-use Rattle.tk_run.specs.declared.command.Command.TheVariants.{Run}
+use Rattle.tk_run.specs.declared.command.Command.TheVariants.{Run, Check}
 use Rattle.tk_run.specs.declared.status.Status.{Status}
 use Rattle.tk_run.specs.declared.status.Status.TheVariants as statuses
-use Rattle.tk_run.specs.Commands.{command_of}
-use Rattle.tk_run.specs.Readings.{Spells}
+use Rattle.tk_model.specs.ScriptText.{Spells, printed}
 use Rattle.tk_run.specs.Outcomes.{Outcome}
 
 -- the status is the outcome's and all its bytes were taken, unless a stream failed or memory ran out
@@ -43,6 +42,10 @@ abbrev pub WritesTrace : Mode → ℕ → List ℕ → Option (List ℕ) → Opt
 WritesTrace mode budget input old new IsEnd =
     (script : Script) × Spells input script × IsEnd (trace script mode budget).end × Appends old new (text_of_lines (trace script mode budget).lines)
 
+-- the input spells a script, and the sink took its printed form
+abbrev pub WritesPrinted : List ℕ → Option (List ℕ) → Option (List ℕ) → Type 0
+WritesPrinted input old new = (script : Script) × Spells input script × Appends old new (printed script)
+
 abbrev pub IsDone : End → Type 0
 IsDone end = (end ≡ ends.Idle) ⊎ (end ≡ ends.Halt)
 
@@ -50,6 +53,8 @@ IsDone end = (end ≡ ends.Idle) ⊎ (end ≡ ends.Halt)
 abbrev pub HeadlineAnswers : Option Command → List ℕ → Option (List ℕ) → Option (List ℕ) → Status → Type 0
 HeadlineAnswers (Some (Run mode budget)) input old new statuses.Done = WritesTrace mode budget input old new IsDone
 HeadlineAnswers (Some (Run mode budget)) input old new statuses.Budget = WritesTrace mode budget input old new (λ end. end ≡ ends.Budget)
+HeadlineAnswers (Some Check) input old new statuses.Done = WritesPrinted input old new
+HeadlineAnswers (Some Check) input old new statuses.Budget = ⊥
 HeadlineAnswers None input old new statuses.Done = ⊥
 HeadlineAnswers None input old new statuses.Budget = ⊥
 HeadlineAnswers _ input old new _ = Unit {0}

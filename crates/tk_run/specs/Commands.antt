@@ -1,9 +1,9 @@
 -- The words of the program, and the command that they are.
 use Rattle.std.specs.Prelude.{ℕ, ◌≤◌, nat_le, ◌&&◌, if◌then◌else◌, List, [], ◌∷◌, Option, Some, None, codes, bytes_eq, option_map}
-use Rattle.tk_types.specs.declared.run.Mode.TheVariants.{Free}
+use Rattle.tk_types.specs.declared.run.Mode.TheVariants.{Free, Sync}
 use Rattle.tk_model.specs.Decimals.{natural_at}
 use Rattle.tk_run.specs.declared.command.Command.{Command}
-use Rattle.tk_run.specs.declared.command.Command.TheVariants.{Run}
+use Rattle.tk_run.specs.declared.command.Command.TheVariants.{Run, Check}
 
 -- the most steps that a run may be given
 abbrev pub most_steps : ℕ
@@ -31,11 +31,28 @@ budget_in (option ∷ []) = None
 budget_in (option ∷ number ∷ []) = if bytes_eq option (codes "--budget") then budget_at number else None
 budget_in (option ∷ number ∷ other ∷ words) = None
 
--- the command of the words: the table has `run`, with the budget behind it
+-- a run in the mode of the words behind `run`: `--sync` comes first, where it is there
+unfoldable pub run_of : List (List ℕ) → Option Command
+run_of [] = Some (Run Free default_budget)
+run_of (option ∷ words) =
+    if bytes_eq option (codes "--sync")
+    then option_map (Run Sync) (budget_in words)
+    else option_map (Run Free) (budget_in (option ∷ words))
+
+-- a command that takes no word more
+abbrev pub alone : Command → List (List ℕ) → Option Command
+alone command [] = Some command
+alone command (word ∷ words) = None
+
+-- the command of the words
 unfoldable pub command_of : List (List ℕ) → Option Command
 command_of [] = None
-command_of (name ∷ words) = if bytes_eq name (codes "run") then option_map (Run Free) (budget_in words) else None
+command_of (name ∷ words) =
+    if bytes_eq name (codes "run") then run_of words
+    else if bytes_eq name (codes "check") then alone Check words
+    else None
 
 -- what holds of the numbers of a command
 abbrev pub IsCommand : Command → Type 0
 IsCommand (Run mode budget) = IsBudget budget
+IsCommand Check = Unit {0}

@@ -1,5 +1,5 @@
 -- What the program has to write and to answer, for its words and its input.
-use Rattle.std.specs.Prelude.{ℕ, List, [], ◌∷◌, ◌++◌, Option, Some, None, codes, decimal}
+use Rattle.std.specs.Prelude.{ℕ, List, ◌++◌, Option, Some, None, codes, decimal}
 use Rattle.tk_types.specs.declared.script.Script.{Script}
 use Rattle.tk_types.specs.declared.script.Reading.{Reading}
 use Rattle.tk_types.specs.declared.script.Reading.TheVariants as readings
@@ -8,14 +8,15 @@ use Rattle.tk_types.specs.declared.run.End.{End}
 use Rattle.tk_types.specs.declared.run.End.TheVariants as ends
 use Rattle.tk_types.specs.declared.why.Why.{Why}
 use Rattle.tk_types.specs.Reasons.{why_text}
+use Rattle.tk_model.specs.ScriptText.{printed}
 use Rattle.tk_model.specs.Trace.{Trace, trace}
 use Rattle.tk_model.specs.LineText.{text_of_lines}
 use Rattle.tk_run.specs.declared.command.Command.{Command}
-use Rattle.tk_run.specs.declared.command.Command.TheVariants.{Run}
+use Rattle.tk_run.specs.declared.command.Command.TheVariants.{Run, Check}
 use Rattle.tk_run.specs.declared.status.Status.{Status}
 use Rattle.tk_run.specs.declared.status.Status.TheVariants as statuses
 use Rattle.tk_run.specs.Commands.{command_of}
-use Rattle.tk_run.specs.Readings.{reading_of}
+use Rattle.tk_run.specs.Readings.{reading_of, reading_all}
 
 pub record Outcome : Type 0 where
   pub status : Status
@@ -55,12 +56,25 @@ reading_outcome mode budget (readings.Refused line why) = refusal_outcome line w
 unfoldable pub run_outcome : Mode → ℕ → List ℕ → Outcome
 run_outcome mode budget input = reading_outcome mode budget (reading_of input)
 
+-- the printed form of a script
+abbrev pub form_outcome : Script → Outcome
+form_outcome script = record { status = statuses.Done; bytes = printed script }
+
+-- the printed form of what was read, or its refusal
+abbrev pub printed_outcome : Reading → Outcome
+printed_outcome (readings.Script script) = form_outcome script
+printed_outcome (readings.Refused line why) = refusal_outcome line why
+
+unfoldable pub check_outcome : List ℕ → Outcome
+check_outcome input = printed_outcome (reading_all input)
+
 abbrev pub usage_outcome : Outcome
 usage_outcome = record { status = statuses.Usage; bytes = codes "usage\n" }
 
 abbrev pub command_outcome : Option Command → List ℕ → Outcome
 command_outcome None input = usage_outcome
 command_outcome (Some (Run mode budget)) input = run_outcome mode budget input
+command_outcome (Some Check) input = check_outcome input
 
 unfoldable pub outcome_of : List (List ℕ) → List ℕ → Outcome
 outcome_of words input = command_outcome (command_of words) input

@@ -1,18 +1,18 @@
--- How the input is read as a script: the one place that names how much of the grammar there is so far.
+-- How the input is read as a script, by what each command takes.
 use Rattle.std.specs.Prelude.{ℕ, List}
-use Rattle.tk_types.specs.declared.script.Script.{Script}
 use Rattle.tk_types.specs.declared.script.Reading.{Reading}
 use Rattle.tk_types.specs.declared.script.Reading.TheVariants as readings
 use Rattle.tk_model.specs.Statements.{IsRunnable}
-use Rattle.tk_model.specs.ScriptReading.{SpellsFirst, answer_first, reading_first}
+use Rattle.tk_script.specs.Reading.{answer, reading}
+use Rattle.tk_script.specs.Built.{reading_built}
 
--- what a text is read as
+-- what a text is read as to be run: a script with a line that isn't built yet is refused there
 unfoldable pub reading_of : List ℕ → Reading
-reading_of text = answer_first (reading_first text)
+reading_of text = answer (reading_built text)
 
--- a text spells a script
-abbrev pub Spells : List ℕ → Script → Type 0
-Spells text script = SpellsFirst text script
+-- what a text is read as to be printed
+unfoldable pub reading_all : List ℕ → Reading
+reading_all text = answer (reading text)
 
 -- a script that was read can be run
 abbrev pub IsRunnableReading : Reading → Type 0

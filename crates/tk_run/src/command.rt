@@ -1,7 +1,8 @@
 //! The words of the program, and the command that they are.
 
-ghost use Rattle.std.specs.Prelude.{◌≡◌, ◌≢◌, ℕ, ◌≤◌, map, string_bytes, decimal, IfSome, IfNone};
-ghost use Rattle.tk_run.specs.Commands.{IsBudget, IsCommand, budget_at, budget_in, command_of};
+ghost use Rattle.std.specs.Prelude.{◌≡◌, ◌≢◌, ℕ, ◌≤◌, map, string_bytes, decimal, option_map, IfSome, IfNone};
+ghost use Rattle.tk_run.specs.Commands.{IsBudget, IsCommand, budget_at, budget_in, command_of, run_of};
+ghost use Rattle.tk_run.specs.declared.command.Command.TheVariants.{Run};
 
 use tk_text::natural;
 use tk_types::Mode;
@@ -11,13 +12,17 @@ use tk_types::Mode;
 pub enum Command {
     /// A run of the script that the input is, in a mode and of at most that many steps, from 1 to 1,000,000.
     Run { mode: Mode, budget: u32 },
+    /// The printed form of the script that the input is.
+    Check,
 }
 
 /// The steps of a run whose words name none.
 const DEFAULT_BUDGET: u32 = 100_000;
 
-/// The most steps that a run may be given.
-const MOST_STEPS: u64 = 1_000_000;
+/// The fewest and the most steps that a run may be given.
+const LEAST_BUDGET: u64 = 1;
+
+const MOST_BUDGET: u64 = 1_000_000;
 
 /// The budget that a word spells: a number from 1 to 1,000,000 in digits of which the first isn't 0.
 #[tactic(auto, unfolding(crate::specs::Commands::budget_at))]
@@ -29,7 +34,7 @@ fn budget_at(word: &[u8]) -> Option<u32>
     let Some(number) = natural(word) else {
         return None;
     };
-    if number < 1 || number > MOST_STEPS {
+    if number < LEAST_BUDGET || number > MOST_BUDGET {
         return None;
     }
     Some(number as u32)
@@ -53,7 +58,37 @@ fn budget_in(words: &[String]) -> Option<u32>
     budget_at(number.as_bytes())
 }
 
-/// The command that the words are, or `None` where they are none: `run`, and then nothing or `--budget N`.
+/// A run of at most so many steps.
+fn run_within(mode: Mode, budget: Option<u32>) -> Option<Command>
+    requires { IfSome budget IsBudget }
+    ensures value { result ≡ option_map (Run mode) budget }
+    ensures within { IfSome result IsCommand }
+{
+    match budget {
+        None => None,
+        Some(budget) => Some(Command::Run { mode, budget }),
+    }
+}
+
+/// The run that the words behind `run` are: `--sync` or not, and then nothing or `--budget N`.
+#[tactic(auto, unfolding(crate::specs::Commands::run_of))]
+fn run_of(words: &[String]) -> Option<Command>
+    ensures value { result ≡ run_of (map string_bytes words.now) }
+    ensures within { IfSome result IsCommand }
+{
+    let Some((option, behind)) = words.split_first() else {
+        return Some(Command::Run {
+            mode: Mode::Free,
+            budget: DEFAULT_BUDGET,
+        });
+    };
+    if option.as_str() == "--sync" {
+        return run_within(Mode::Sync, budget_in(behind));
+    }
+    run_within(Mode::Free, budget_in(words))
+}
+
+/// The command that the words are, or `None` where they are none: `run` with its options, or `check` alone.
 #[tactic(auto, unfolding(crate::specs::Commands::command_of))]
 pub fn command_of(words: &[String]) -> Option<Command>
     ensures value { result ≡ command_of (map string_bytes words.now) }
@@ -62,14 +97,11 @@ pub fn command_of(words: &[String]) -> Option<Command>
     let Some((name, behind)) = words.split_first() else {
         return None;
     };
-    if name.as_str() != "run" {
-        return None;
+    if name.as_str() == "run" {
+        return run_of(behind);
     }
-    let Some(budget) = budget_in(behind) else {
-        return None;
-    };
-    Some(Command::Run {
-        mode: Mode::Free,
-        budget,
-    })
+    if name.as_str() == "check" && behind.is_empty() {
+        return Some(Command::Check);
+    }
+    None
 }

@@ -1,14 +1,22 @@
 //! The program as a whole: from words and the bytes of a source to the bytes of a sink and a status.
 #![tactic(auto)]
 
+mod checking;
 mod command;
 mod entry;
 mod refusal;
 mod run;
+mod running;
 mod status;
+#[cfg(test)]
+mod tests;
 mod turn;
 
+pub use checking::check_script;
 pub use command::{Command, command_of};
 pub use entry::program;
 pub use run::run_script;
 pub use status::Status;
+
+/// The most bytes of a script.
+const LONGEST_SCRIPT: u32 = 1_048_576;
