@@ -9,3 +9,6 @@ pub mod Weaving
 pub mod BodyLaws
 pub mod ScriptLaws
 pub mod Readings
+pub mod PlainLines
+pub mod PlainTexts
+pub mod ShortBodies

@@ -1,5 +1,6 @@
 -- The second pass over a script: each name of a body or of a label becomes its number, in the order of the lines.
-use Rattle.std.specs.Prelude.{ℕ, ◌+◌, Bool, true, false, ◌&&◌, nat_lt, if◌then◌else◌, List, [], ◌∷◌, ◌++◌, length, drop, Option, Some, None, Result, Ok, Err, position, slice_get, slice_index}
+use Rattle.std.specs.Prelude.{ℕ, ◌+◌, ◌^◌, ◌<◌, Bool, true, false, ◌&&◌, nat_lt, if◌then◌else◌, List, [], ◌∷◌, ◌++◌, length, drop, Option, Some, None, Result, Ok, Err, position, slice_get, slice_index}
+use Rattle.std.specs.List.{AllByRecursion}
 use Rattle.std.specs.Str.{bytes_eq}
 use Rattle.tk_types.specs.CallNames.{form_of}
 use Rattle.tk_types.specs.declared.call_name.ArgumentKind.{ArgumentKind}
@@ -312,6 +313,13 @@ boot_numbers raw = drop (length raw.irqs) (drop (pace_count raw.pace) (drop (len
 -- the body of the task at the start
 unfoldable pub boot_of : RawScript → Result ℕ Refusal
 boot_of raw = at_line (first_number (boot_numbers raw)) (body_number raw.bodies Task raw.boot.body)
+
+-- a body whose lines are no more than a number of 32 bits counts; each body of a text is
+abbrev pub IsShort : RawBody → Type 0
+IsShort body = length body.items < 2 ^ 32
+
+abbrev pub AreShort : List RawBody → Type 0
+AreShort bodies = AllByRecursion IsShort bodies
 
 -- the script that a script is whose names are looked up, or the first line with a name that stands for nothing
 unfoldable pub resolved : RawScript → Result Script Refusal

@@ -1,9 +1,9 @@
 //! Laws of scripts as texts. Each function does nothing; its contract is the law, which holds of every text.
 
-ghost use Rattle.std.specs.Prelude.{◌≡◌, ◌↔◌, ℕ, List, Ok, Err};
+ghost use Rattle.std.specs.Prelude.{◌≡◌, ◌≢◌, ◌↔◌, ◌<◌, ◌≤◌, ◌++◌, ◌∷◌, [], ℕ, List, Ok, Err, length};
 ghost use Rattle.tk_types.specs.declared.script.Script.{Script};
 ghost use Rattle.tk_types.specs.declared.why.Why.TheVariants.{Later};
-ghost use Rattle.tk_model.specs.ScriptText.{Spells};
+ghost use Rattle.tk_model.specs.ScriptText.{Spells, printed};
 ghost use Rattle.tk_raw.specs.RawReading.{Refusal};
 ghost use Rattle.tk_script.specs.Built.{reading_built};
 ghost use Rattle.tk_script.specs.Reading.{reading};
@@ -30,4 +30,12 @@ pub fn built()
     ensures found { (text : List ℕ) (script : Script) → reading_built text ≡ Ok script → Spells text script }
     ensures first { (text : List ℕ) (refusal : Refusal) → reading text ≡ Err refusal → reading_built text ≡ Err refusal }
     ensures later { (text : List ℕ) (script : Script) (refusal : Refusal) → Spells text script → reading_built text ≡ Err refusal → refusal.1 ≡ Later }
+{}
+
+/// The printed form of a script that a text spells is read again as that script, unless it has more bytes than a text
+/// may have. Then the text has just as many as it may have, and its last line has no line feed.
+pub fn printed_again()
+    ensures again { (text : List ℕ) (script : Script) → Spells text script → length (printed script) ≤ 1048576 → Spells (printed script) script }
+    ensures longer { (text : List ℕ) (script : Script) → Spells text script → 1048576 < length (printed script) → length text ≡ 1048576 }
+    ensures open_ended { (text : List ℕ) (script : Script) (front : List ℕ) → Spells text script → 1048576 < length (printed script) → text ≢ front ++ 10 ∷ [] }
 {}

@@ -4,7 +4,7 @@
 ghost use Rattle.std.specs.Prelude.{◌≡◌, ◌+◌, ◌<◌, ◌≤◌, ◌^◌, [], length, drop, IfOk, slice_index};
 ghost use Rattle.tk_types.specs.declared.script.BodyKind.TheVariants.{Task};
 ghost use Rattle.tk_script.specs.Gives.{Gives, GivesLine};
-ghost use Rattle.tk_script.specs.Resolving.{at_line, behind_body, bodies_from, bodies_with, body_number, body_of, boot_numbers, boot_of, first_number, labels_of, labels_with, pace_count, place_behind, resolved, stmt_by, stmts_from, stmts_with};
+ghost use Rattle.tk_script.specs.Resolving.{AreShort, IsShort, at_line, behind_body, bodies_from, bodies_with, body_number, body_of, boot_numbers, boot_of, first_number, labels_of, labels_with, pace_count, place_behind, resolved, stmt_by, stmts_from, stmts_with};
 
 use crate::errors::{LineError, StepError};
 use crate::names::body_number;
@@ -13,9 +13,6 @@ use crate::resolving::stmt_by;
 use std::alloc::Global;
 use tk_raw::{RawBody, RawBoot, RawItem, RawScript, RawStmt};
 use tk_types::{Body, BodyKind, Boot, Label, OutOfMemory, Script, Sequence, Stmt};
-
-/// Each body has fewer lines than that, which is more than a text has.
-const TOO_MANY_LINES: usize = 4_294_967_296;
 
 /// The labels with that of a line, before which so many statements stand.
 fn labels_with(
@@ -142,11 +139,9 @@ fn body_of(
     numbers: &[u32],
     body: &RawBody,
 ) -> Result<Body, LineError>
+    requires { IsShort body.now }
     ensures { GivesLine result (body_of bodies.now numbers.now body.now) }
 {
-    if body.items.len() >= TOO_MANY_LINES {
-        return Err(LineError::Memory);
-    }
     let items = body.items.as_slice();
     let labels = labels_of(alloc, items)?;
     let stmts = stmts_from(
@@ -174,6 +169,7 @@ fn bodies_with(
     body: &RawBody,
     mut done: Sequence<Body>,
 ) -> Result<Sequence<Body>, LineError>
+    requires { IsShort body.now }
     ensures { GivesLine result (bodies_with bodies.now numbers.now body.now done) }
 {
     let found = body_of(alloc, bodies, numbers, body)?;
@@ -187,6 +183,7 @@ fn bodies_from(
     bodies: &[RawBody],
     numbers: &[u32],
 ) -> Result<Sequence<Body>, LineError>
+    requires { AreShort bodies.now }
     ensures { GivesLine result (bodies_from bodies.now numbers.now bodies.now []) }
 {
     let mut done = Sequence::new(alloc);
@@ -219,6 +216,7 @@ fn boot_of(raw: &RawScript) -> Result<u8, LineError>
 /// The script with its names looked up, or the first line with a name that stands for nothing that may stand there.
 #[tactic(auto, unfolding(crate::specs::Resolving::resolved))]
 pub(crate) fn resolved(alloc: Global, raw: RawScript) -> Result<Script, LineError>
+    requires { AreShort raw.bodies }
     ensures { GivesLine result (resolved raw) }
 {
     let boot = boot_of(&raw)?;

@@ -6,7 +6,7 @@ ghost use Rattle.tk_types.specs.declared.script.Reading.TheVariants as readings;
 ghost use Rattle.tk_model.specs.ScriptText.{Spells};
 ghost use Rattle.tk_script.specs.Built.{first_unbuilt, reading_built, resolved_built, when_built};
 ghost use Rattle.tk_script.specs.Reading.{answer, reading};
-ghost use Rattle.tk_script.specs.Resolving.{resolved};
+ghost use Rattle.tk_script.specs.Resolving.{AreShort, resolved};
 
 use crate::built::first_unbuilt;
 use crate::errors::LineError;
@@ -17,6 +17,7 @@ use tk_types::{OutOfMemory, Reading, Script, Why};
 
 /// The answer to a script whose lines are read.
 fn answer_resolved(alloc: Global, raw: RawScript) -> Result<Reading, OutOfMemory>
+    requires { AreShort raw.bodies }
     ensures { IfOk result (λ reading. reading ≡ answer (resolved raw)) }
 {
     match resolved(alloc, raw) {
@@ -64,6 +65,7 @@ fn answer_built(unbuilt: Option<u32>, script: Script) -> Reading
 /// The answer to a script whose lines are read, where each of them has to be built.
 #[tactic(auto, unfolding(crate::specs::Built::resolved_built))]
 fn answer_resolved_built(alloc: Global, raw: RawScript) -> Result<Reading, OutOfMemory>
+    requires { AreShort raw.bodies }
     ensures { IfOk result (λ reading. reading ≡ answer (resolved_built raw)) }
 {
     let unbuilt = first_unbuilt(&raw);
