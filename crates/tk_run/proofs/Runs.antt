@@ -114,9 +114,10 @@ pub turn_begins : (m : Machine) (left more : ℕ) → m.over ≡ None → more �
 turn_begins m left more going is =
     let after : Machine = after_step m in
     let first : (lines : List Line) × ((rest after left).lines ≡ after.lines ++ lines) =
-        rest_of_begins after.script after.budget left after.state after.lines after.over in
-    (text_of_lines first.0,
-      ap (λ (run : Trace). text_of_lines run.lines) (rest_after_step m left more going is) ∙ (ap text_of_lines first.1 ∙ lines_append after.lines first.0))
+    rest_of_begins after.script after.budget left after.state after.lines after.over in (
+      text_of_lines first.0,
+      ap (λ (run : Trace). text_of_lines run.lines) (rest_after_step m left more going is) ∙ (ap text_of_lines first.1 ∙ lines_append after.lines first.0),
+    )
 
 -- the loop before a turn: so many turns are done, and so many steps are left
 pub record IsTurning (held held_now : Option (List ℕ)) (faults faults_now room room_now : ℕ) (whole : Trace) (m : Machine) (turns left : ℕ) : Type 0 where
@@ -161,7 +162,7 @@ run_ends {held} {mid} {whole = whole} {more = steps} new m left end status h is 
     let last : rest m steps ≡ record { lines = (after_step m).lines; end = end } = rest_after_step m left steps h.going is ∙ rest_over (after_step m) left end over in
     let whole_end : whole.end ≡ end = sym h.running.ends ∙ ap (λ (run : Trace). run.end) last in
     let joins : h.running.front ++ turn_text m ≡ text_of_lines whole.lines =
-        ap (λ (run : Trace). h.running.front ++ text_of_lines run.lines) (sym last) ∙ h.running.joins in
+    ap (λ (run : Trace). h.running.front ++ text_of_lines run.lines) (sym last) ∙ h.running.joins in
     let all : Appends held new (text_of_lines whole.lines) = rw (← joins) (appends_append held mid new h.running.front (turn_text m) h.running.taken more) in
     rw status_is (answered whole end held new whole_end all)
 
@@ -180,7 +181,7 @@ run_fails {held} {mid} {whole = whole} {more = steps} new m left h is part =
     let behind = turn_begins m left steps h.going is in
     let front : List ℕ = h.running.front in
     let joins : (front ++ turn_text m) ++ behind.0 ≡ text_of_lines whole.lines =
-        append_assoc front (turn_text m) behind.0 ∙ (ap (λ (l : List ℕ). front ++ l) (sym behind.1) ∙ h.running.joins) in
+    append_assoc front (turn_text m) behind.0 ∙ (ap (λ (l : List ℕ). front ++ l) (sym behind.1) ∙ h.running.joins) in
     rw (← joins) (front_within held new (front ++ turn_text m) behind.0 (front_behind held mid new front (turn_text m) h.running.taken part))
 
 -- nothing was written in a turn

@@ -32,13 +32,13 @@ pub told_outcome : (left : Option (List ℕ)) (mode : Mode) (budget : ℕ) (text
     → P (run_outcome mode budget text) → IfSome left (λ input. P (run_outcome mode budget input))
 told_outcome left mode budget text P read holds =
     told_then left (λ input. text ≡ take (1048576 + 1) input) (λ input. P (run_outcome mode budget input))
-        (λ input is. rw (sym (outcome_decides mode budget text input is)) holds) read
+    (λ input is. rw (sym (outcome_decides mode budget text input is)) holds) read
 
 pub told_headline : (left : Option (List ℕ)) (mode : Mode) (budget : ℕ) (old new : Option (List ℕ)) (status : Status)
     → IfSome left (λ input. OutcomeAnswers (run_outcome mode budget input) old new status) → IfSome left (λ input. HeadlineAnswers (Some (Run mode budget)) input old new status)
 told_headline left mode budget old new status =
     told_then left (λ input. OutcomeAnswers (run_outcome mode budget input) old new status) (λ input. HeadlineAnswers (Some (Run mode budget)) input old new status)
-        (λ input. headline mode budget input old new status)
+    (λ input. headline mode budget input old new status)
 
 -- the outcome of the words is that of their command
 pub words_outcome : (words : List (List ℕ)) (command : Option Command) (input : List ℕ) → command ≡ command_of words → command_outcome command input ≡ outcome_of words input

@@ -54,13 +54,7 @@ fn run_reading<K: Sink>(
 
 /// Runs the script that a text is, or writes why it is refused.
 #[tactic(auto, unfolding(crate::specs::Outcomes::run_outcome))]
-fn run_text<K: Sink>(
-    alloc: Global,
-    text: &[u8],
-    mode: Mode,
-    budget: u32,
-    sink: &mut K,
-) -> Status
+fn run_text<K: Sink>(alloc: Global, text: &[u8], mode: Mode, budget: u32, sink: &mut K) -> Status
     requires steps { IsBudget budget }
     ensures outcome { OutcomeAnswers (run_outcome mode budget text.now) (K.held sink.old) (K.held sink.new) result }
     ensures past_reading { IsPastReading result }

@@ -6,6 +6,8 @@ mod entry;
 mod refusal;
 mod run;
 mod status;
+#[cfg(test)]
+mod tests;
 mod turn;
 
 pub use command::{Command, command_of};

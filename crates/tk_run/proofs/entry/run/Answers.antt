@@ -7,8 +7,8 @@ use Rattle.tk_run.proofs.entry.run.Goals as goal
 pub returns-clause-outcome : goal.returns-clause-outcome
 returns-clause-outcome g c =
     told_outcome _ c.args.mode c.args.budget c.deref.result.now
-        (λ (outcome : Outcome). OutcomeAnswers outcome (g.K.Sink.held c.args.sink.now) (g.K.Sink.held c.run_text.new.sink) c.run_text.result)
-        (rw c.deref.ensures.value c.in-Ok.ensures.whole) c.run_text.ensures.outcome
+    (λ (outcome : Outcome). OutcomeAnswers outcome (g.K.Sink.held c.args.sink.now) (g.K.Sink.held c.run_text.new.sink) c.run_text.result)
+    (rw c.deref.ensures.value c.in-Ok.ensures.whole) c.run_text.ensures.outcome
 
 pub returns-clause-headline : goal.returns-clause-headline
 returns-clause-headline g c = told_headline _ c.args.mode c.args.budget _ _ _ (returns-clause-outcome g c)
@@ -16,6 +16,6 @@ returns-clause-headline g c = told_headline _ c.args.mode c.args.budget _ _ _ (r
 pub returns-clause-complete : goal.returns-clause-complete
 returns-clause-complete g c = λ sound.
     told_outcome _ c.args.mode c.args.budget c.deref.result.now
-        (λ (outcome : Outcome). length outcome.bytes ≤ g.K.Sink.sure_room c.args.sink.now
-            → IsCertain outcome.status (g.K.Sink.faulted c.args.sink.now) (g.K.Sink.faulted c.run_text.new.sink) c.run_text.result)
-        (rw c.deref.ensures.value c.in-Ok.ensures.whole) c.run_text.ensures.certain
+    (λ (outcome : Outcome). length outcome.bytes ≤ g.K.Sink.sure_room c.args.sink.now
+    → IsCertain outcome.status (g.K.Sink.faulted c.args.sink.now) (g.K.Sink.faulted c.run_text.new.sink) c.run_text.result)
+    (rw c.deref.ensures.value c.in-Ok.ensures.whole) c.run_text.ensures.certain

@@ -9,7 +9,7 @@ pub steps-preserved : goal.steps-preserved
 steps-preserved g c =
     let turn = c.in-Went.ensures in
     turn_goes_on _ _ (c.args.budget - (c.steps._step + 1)) c.steps.invariant (omega arith) turn.answer.0 turn.answer.1 turn.answer.2 turn.faults_stay
-        (λ fits. let sure = turn.certain fits in (sure.1, sure.2))
+    (λ fits. let sure = turn.certain fits in (sure.1, sure.2))
 
 pub returns-in-Over-clause-outcome : goal.returns-in-Over-clause-outcome
 returns-in-Over-clause-outcome g c =
@@ -21,7 +21,7 @@ returns-in-Over-clause-certain g c =
     let left = c.args.budget - (c.steps._step + 1) in
     let turn = c.in-Over.ensures in
     turn_is_certain _ left _ _ c.steps.invariant (omega arith) turn.certain
-        (λ _. inl (c.status_of_end.ensures ∙ end_is _ left c.in-Over.end c.steps.invariant (omega arith) turn.answer.0))
+    (λ _. inl (c.status_of_end.ensures ∙ end_is _ left c.in-Over.end c.steps.invariant (omega arith) turn.answer.0))
 
 pub returns-in-WriteFault-clause-outcome : goal.returns-in-WriteFault-clause-outcome
 returns-in-WriteFault-clause-outcome g c =
