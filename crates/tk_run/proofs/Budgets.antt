@@ -1,5 +1,5 @@
 -- A word spells one number at most.
-use Rattle.std.proofs.Common.{◌≡◌, ℕ, ◌<◌, ◌^◌, List, Option, Some, ap, sym, ◌∙◌}
+use Rattle.std.proofs.Common.{◌≡◌, ℕ, ◌<◌, ◌^◌, List, Some, ap, ◌∙◌}
 use Rattle.std.specs.Fmt.{decimal}
 use Rattle.tk_text.specs.Decimals.{natural_at}
 use Rattle.tk_text.proofs.Decimals.{natural_at_again}

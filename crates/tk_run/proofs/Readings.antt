@@ -1,5 +1,5 @@
 -- The input within the limit decides how it is read, and what is read is spelled.
-use Rattle.std.proofs.Common.{◌≡◌, ◌⊎◌, ℕ, ◌+◌, ◌<◌, ◌≤◌, Bool, true, false, List, take, length, Option, Some, None, inl, inr, refl, sym, ap, ◌∙◌, arith}
+use Rattle.std.proofs.Common.{◌≡◌, ◌⊎◌, ℕ, ◌+◌, ◌<◌, ◌≤◌, List, take, length, Option, Some, None, inl, inr, refl, sym, ap, ◌∙◌, arith}
 use Rattle.std.proofs.lemmas.List.{take_all, length-take-le}
 use Rattle.std.proofs.lemmas.Bool.{lt-leb}
 use Rattle.tk_types.specs.declared.script.Script.{Script}
@@ -10,7 +10,7 @@ use Rattle.tk_types.specs.declared.run.End.{End}
 use Rattle.tk_types.specs.declared.run.End.TheVariants as ends
 use Rattle.tk_model.specs.Statements.{IsRunnable}
 use Rattle.tk_model.specs.ScriptReading.{answer_first, reading_first}
-use Rattle.tk_model.specs.Trace.{Trace, trace}
+use Rattle.tk_model.specs.Trace.{trace}
 use Rattle.tk_model.proofs.FirstTakes.{reading_takes}
 use Rattle.tk_run.specs.declared.command.Command.TheVariants.{Run}
 use Rattle.tk_run.specs.declared.status.Status.{Status}

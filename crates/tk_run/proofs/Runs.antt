@@ -1,13 +1,13 @@
 -- The loop of a run, over plain variables: what the sink took, and what is still to be written, make the whole.
-use Rattle.std.proofs.Common.{◌≡◌, ◌≢◌, ℕ, suc, ◌+◌, ◌-◌, ◌<◌, ◌≤◌, List, [], ◌++◌, length, Option, Some, None, ◌⊎◌, refl, sym, ap, ◌∙◌, arith}
+use Rattle.std.proofs.Common.{◌≡◌, ℕ, suc, ◌+◌, ◌<◌, ◌≤◌, List, [], ◌++◌, length, Option, Some, None, ◌⊎◌, refl, sym, ap, ◌∙◌, arith}
 use Rattle.std.proofs.lemmas.List.{append-nil, append_assoc, length-append}
 use Rattle.tk_types.specs.declared.script.Script.{Script}
 use Rattle.tk_types.specs.declared.line.Line.{Line}
 use Rattle.tk_types.specs.declared.run.Mode.{Mode}
 use Rattle.tk_types.specs.declared.run.End.{End}
 use Rattle.tk_types.specs.declared.run.End.TheVariants as ends
-use Rattle.tk_ports.specs.Streams.{Appends, AppendsFront, Rose}
-use Rattle.tk_ports.proofs.Streams.{appends_none, appends_append, front_of_all, front_of_part, front_behind, front_within, rose_behind}
+use Rattle.tk_ports.specs.Streams.{Appends, AppendsFront}
+use Rattle.tk_ports.proofs.Streams.{appends_none, appends_append, front_of_part, front_behind, front_within}
 use Rattle.tk_model.specs.State.{State}
 use Rattle.tk_model.specs.Step.{Stepped, step}
 use Rattle.tk_model.specs.Trace.{Trace, after, steps_from, trace}

@@ -1,5 +1,5 @@
 -- What is said of the input, where the source tells it, over plain variables.
-use Rattle.std.proofs.Common.{◌≡◌, ◌⊎◌, ℕ, ◌+◌, ◌<◌, ◌≤◌, List, length, take, Option, Some, None, IfSome, inl, inr, refl, sym, ap}
+use Rattle.std.proofs.Common.{◌≡◌, ◌⊎◌, ℕ, ◌+◌, ◌<◌, ◌≤◌, List, length, take, Option, Some, None, IfSome, inl, inr, sym, ap}
 use Rattle.std.proofs.lemmas.Bool.Decides.{leb_tells}
 use Rattle.tk_types.specs.declared.run.Mode.{Mode}
 use Rattle.tk_run.specs.declared.command.Command.{Command}
@@ -7,7 +7,7 @@ use Rattle.tk_run.specs.declared.command.Command.TheVariants.{Run}
 use Rattle.tk_run.specs.declared.status.Status.{Status}
 use Rattle.tk_run.specs.Commands.{command_of}
 use Rattle.tk_run.specs.Outcomes.{Outcome, command_outcome, outcome_of, reading_outcome, run_outcome}
-use Rattle.tk_run.specs.Answers.{HeadlineAnswers, IsCertain, OutcomeAnswers}
+use Rattle.tk_run.specs.Answers.{HeadlineAnswers, OutcomeAnswers}
 use Rattle.tk_run.proofs.Readings.{front_decides, headline}
 
 -- what holds anyway

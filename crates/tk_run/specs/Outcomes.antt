@@ -1,6 +1,5 @@
 -- What the program has to write and to answer, for its words and its input.
-use Rattle.std.specs.Prelude.{ℕ, List, [], ◌∷◌, ◌++◌, Option, Some, None, codes, decimal}
-use Rattle.tk_types.specs.declared.script.Script.{Script}
+use Rattle.std.specs.Prelude.{ℕ, List, ◌++◌, Option, Some, None, codes, decimal}
 use Rattle.tk_types.specs.declared.script.Reading.{Reading}
 use Rattle.tk_types.specs.declared.script.Reading.TheVariants as readings
 use Rattle.tk_types.specs.declared.run.Mode.{Mode}

@@ -1,5 +1,5 @@
 -- What a run still has to write, and what one turn of it does.
-use Rattle.std.specs.Prelude.{◌≡◌, ℕ, List, [], ◌++◌, Option, Some, None}
+use Rattle.std.specs.Prelude.{◌≡◌, ℕ, List, [], Option, Some, None}
 use Rattle.tk_types.specs.declared.script.Script.{Script}
 use Rattle.tk_types.specs.declared.line.Line.{Line}
 use Rattle.tk_types.specs.declared.run.End.{End}

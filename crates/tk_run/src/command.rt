@@ -16,8 +16,10 @@ pub enum Command {
 /// The steps of a run whose words name none.
 const DEFAULT_BUDGET: u32 = 100_000;
 
-/// The most steps that a run may be given.
-const MOST_STEPS: u64 = 1_000_000;
+/// The fewest and the most steps that a run may be given.
+const LEAST_BUDGET: u64 = 1;
+
+const MOST_BUDGET: u64 = 1_000_000;
 
 /// The budget that a word spells: a number from 1 to 1,000,000 in digits of which the first isn't 0.
 #[tactic(auto, unfolding(crate::specs::Commands::budget_at))]
@@ -29,7 +31,7 @@ fn budget_at(word: &[u8]) -> Option<u32>
     let Some(number) = natural(word) else {
         return None;
     };
-    if number < 1 || number > MOST_STEPS {
+    if number < LEAST_BUDGET || number > MOST_BUDGET {
         return None;
     }
     Some(number as u32)

@@ -1,4 +1,4 @@
-use Rattle.std.proofs.Common.{◌≡◌, ◌+◌, ◌-◌, refl, sym, ◌∙◌, inl, inr, arith}
+use Rattle.std.proofs.Common.{◌+◌, ◌-◌, refl, sym, ◌∙◌, inl, inr, arith}
 use Rattle.tk_run.proofs.Runs.{turns_begin, turn_goes_on, run_ends, end_is, run_fails, run_stops, run_used_up, turn_is_certain}
 use Rattle.tk_run.proofs.run.run_script.Goals as goal
 
