@@ -1,8 +1,8 @@
 -- The head of a sorted order is the best that one pass finds.
-use Rattle.std.proofs.Common.{◌≡◌, ℕ, Bool, true, false, nat_lt, List, [], ◌∷◌, ◌++◌, Option, Some, None, refl, cond, ◌∙◌, ap, sym}
+use Rattle.std.proofs.Common.{◌≡◌, ℕ, Bool, true, false, nat_lt, List, [], ◌∷◌, Option, Some, None, refl, cond, ◌∙◌, ap}
 use Rattle.std.specs.Prelude.{filter, fold, unwrap_or}
-use Rattle.tk_model.specs.Orders.{insert_behind, sort_by, head_or_zero}
-use Rattle.tk_model.specs.Choice.{better_than, better, best_of}
+use Rattle.tk_model.specs.Orders.{insert_behind, head_or_zero}
+use Rattle.tk_model.specs.Choice.{better_than, best_of}
 use Rattle.tk_model.specs.Base.{Base, is_ready, current, chosen, ready_list}
 
 abbrev pub head : List ℕ → Option ℕ

@@ -1,6 +1,5 @@
 -- Choices between values.
-use Rattle.std.proofs.Common.{Bool, Err, None, Ok, Option, Result, Some, arith, cond, eqb, false, not, refl, suc, sym, true, zero, ℕ, ◌&&◌, ◌||◌, ◌≡◌, ◌≤◌}
-use Rattle.std.specs.Result.{IfOk}
+use Rattle.std.proofs.Common.{Bool, None, Option, Some, arith, cond, eqb, false, not, refl, sym, true, ℕ, ◌&&◌, ◌||◌, ◌≡◌, ◌≤◌}
 use Rattle.std.specs.Bool.{Decides}
 use Rattle.std.proofs.lemmas.Bool.Decides.{nat_tests}
 use Rattle.std.specs.Option.{option_map}
@@ -16,24 +15,10 @@ pub value_chosen : {X : Type 0} (b : Bool) (x y : X) → cond b (Some x) None �
 value_chosen true x y e = (refl, cc)
 value_chosen false x y e = absurd (cc)
 
-pub none_chosen : {X : Type 0} (b : Bool) (x : X) → cond b (Some x) None ≡ None → b ≡ false
-none_chosen true x e = absurd (cc)
-none_chosen false x e = refl
-
 -- a fact that a test decides and that can't fail
 pub from_test : {P : Type 0} (b : Bool) → Decides b P → ((P → ⊥) → ⊥) → P
 from_test true d certain = d.0 refl
 from_test false d certain = absurd (certain (λ p. let e : false ≡ true = d.1 p in cc))
-
--- an option that can be no value is none
-pub none_of : {X : Type 0} (r : Option X) → ((x : X) → r ≡ Some x → ⊥) → None ≡ r
-none_of None never = refl
-none_of (Some x) never = absurd (never x refl)
-
--- what follows from what is said of a good result
-pub ok_map : {T E : Type 0} (r : Result T E) (P Q : T → Type 0) → IfOk r P → ((x : T) → P x → Q x) → IfOk r Q
-ok_map (Ok x) P Q is go = go x is
-ok_map (Err e) P Q is go = tt
 
 -- what came before, where something was read next
 pub read_next : {A B : Type 0} (read : Option A) (next : A → Option B) (y : B) → and_then read next ≡ Some y → (x : A) × (read ≡ Some x) × (next x ≡ Some y)

@@ -1,14 +1,12 @@
 -- The printed form of a script of the first stage is read as that script.
-use Rattle.std.proofs.Common.{◌≡◌, ◌∙◌, sym, refl, ap, subst, arith, inl, inr, ℕ, zero, suc, ◌+◌, ◌-◌, ◌<◌, ◌≤◌, Bool, true, false, cond, eqb, ltb, leb, not, ◌&&◌, ◌||◌, List, [], ◌∷◌, ◌++◌, map, length, drop, Option, Some, None, append_assoc}
-use Rattle.std.specs.Prelude.{ℤ, pos, negsuc, codes, bytes_eq, decimal, position, nat_le, nat_lt, ◌==◌, ◌⊎◌, flat_map}
+use Rattle.std.proofs.Common.{◌≡◌, ◌∙◌, sym, refl, ap, subst, arith, inl, inr, ℕ, zero, suc, ◌+◌, ◌-◌, ◌<◌, ◌≤◌, Bool, true, false, not, ◌||◌, List, [], ◌∷◌, ◌++◌, map, length, Option, Some, None, append_assoc}
+use Rattle.std.specs.Prelude.{negsuc, codes, bytes_eq, decimal, position, ◌⊎◌, flat_map}
 use Rattle.std.specs.Fmt.{signed_decimal}
-use Rattle.std.specs.Int.{w32}
-use Rattle.std.specs.Int.RustNames.{FitsSigned}
-use Rattle.std.specs.List.{AllByRecursion, list_all, list_any, slice_get, position_from, slice_split}
-use Rattle.std.specs.Option.{option_map, option_to_list}
+use Rattle.std.specs.List.{AllByRecursion, list_any, slice_get, position_from}
+use Rattle.std.specs.Option.{option_map}
 use Rattle.std.proofs.lemmas.List.{append-nil, append_cancel_right, length-map}
 use Rattle.std.proofs.lemmas.Option.{slice_get-map, slice_get_within}
-use Rattle.std.proofs.lemmas.Bool.{ltb-true, leb-true, eqb-true, lt-ltb, le-leb, eq-eqb}
+use Rattle.std.proofs.lemmas.Bool.{lt-ltb, le-leb, eq-eqb}
 use Rattle.std.proofs.lemmas.Slice.Eq.{bytes_eq-Decides}
 use Rattle.std.proofs.lemmas.Iterator.Adapters.{position_from-zero}
 use Rattle.tk_types.specs.Names.{name_at_most}
@@ -19,17 +17,15 @@ use Rattle.tk_types.specs.declared.call_name.CallName.{CallName}
 use Rattle.tk_types.specs.declared.call_name.CallName.TheVariants.{TkCreTsk, TkStaTsk, TkSlpTsk, TkWupTsk, TkExtTsk}
 use Rattle.tk_types.specs.declared.script.Script.{Script}
 use Rattle.tk_types.specs.declared.script.Boot.{Boot}
-use Rattle.tk_types.specs.declared.script.Label.{Label}
 use Rattle.tk_types.specs.declared.script.Body.{Body}
-use Rattle.tk_types.specs.declared.script.BodyKind.{BodyKind}
 use Rattle.tk_types.specs.declared.script.BodyKind.TheVariants.{Task}
 use Rattle.tk_types.specs.declared.script.Arg.{Arg}
 use Rattle.tk_types.specs.declared.script.Arg.TheVariants as args
 use Rattle.tk_types.specs.declared.script.Stmt.{Stmt}
 use Rattle.tk_types.specs.declared.script.Stmt.TheVariants.{Say, Call}
-use Rattle.tk_model.specs.NumberWords.{number_at, natural_at}
-use Rattle.tk_model.specs.ScriptText.{dash, IsBodyNumber, IsBody, IsScript, IsBetween, FitsArg, FitsArgs, FitsStmt, all_differ, list_word, body_word, name_or_dash, arg_word, arg_words, stmt_words, item_lines, body_kind_word, body_lines, device_words, pace_lines, irq_words, boot_words, head_words, printed_lines, gaps, joined, line_text, printed, table_of}
-use Rattle.tk_model.specs.ScriptReading.{and_then, IsFirstArg, IsFirstCall, IsFirstStmt, IsFirstBody, IsFirstStage, SpellsFirst, number_of_place, body_at, arg_at, args_at, first_call, call_at, name_at, say_at, stmt_at, Reached, new_body, with_stmt, closed, outside, inside, line_at, at_end, bodies_at, begun, body_names, split_words, split_lines, priority_of, priority_at, boot_of, boot_at, are_numbered, script_of, script_from, script_at, is_form, compared, reading_first}
+use Rattle.tk_model.specs.Lists.{list_text_of}
+use Rattle.tk_model.specs.ScriptText.{dash, IsBodyNumber, IsBody, IsScript, IsBetween, FitsArg, FitsArgs, FitsStmt, all_differ, body_word, arg_word, arg_words, stmt_words, item_lines, body_kind_word, body_lines, boot_words, head_words, printed_lines, joined, printed, table_of}
+use Rattle.tk_model.specs.ScriptReading.{IsFirstArg, IsFirstCall, IsFirstStmt, IsFirstBody, IsFirstStage, SpellsFirst, number_of_place, body_at, arg_at, args_at, first_call, call_at, name_at, say_at, stmt_at, new_body, with_stmt, outside, inside, line_at, bodies_at, begun, body_names, split_words, split_lines, priority_at, boot_at, are_numbered, script_of, script_from, script_at, is_form, compared, reading_first}
 use Rattle.tk_model.proofs.Choices.{both_true, read_mapped, same_value, neither, is_not, not_zero}
 use Rattle.tk_model.proofs.NumberLaws.{number_at_again, natural_at_again}
 use Rattle.tk_model.proofs.Splits.{IsPlain, IsLine, IsLine.words_of, words_again, lines_again, split_last, name_plain, decimal_plain, number_plain, call_plain}
@@ -56,7 +52,7 @@ place_again (x ∷ names) zero from name differ at =
 place_again (x ∷ names) (suc i) from name differ at =
     let t = both_true (not (list_any (bytes_eq x) names)) (all_differ names) differ in
     rw (other_name x names i name (is_not (list_any (bytes_eq x) names) t.0) at)
-        (place_again names i (from + 1) name t.1 at ∙ ap (λ (n : ℕ). Some n) (omega arith))
+    (place_again names i (from + 1) name t.1 at ∙ ap (λ (n : ℕ). Some n) (omega arith))
 
 found_at : (bodies : List Body) (n : ℕ) (body : Body) → all_differ (map (λ (b : Body). b.name) bodies) ≡ true → length bodies ≤ 255 → 1 ≤ n → slice_get bodies (n - 1) ≡ Some body → body_at (map (λ (b : Body). b.name) bodies) body.name ≡ Some n
 unfolding body_at
@@ -84,8 +80,9 @@ are_found bodies differ few fits n number =
     let m = read_mapped (slice_get bodies (n - 1)) (λ (b : Body). b.kind) Task number.is in
     let word : body_word bodies n ≡ m.0.name = body_word_of bodies n m.0 number.from_one m.1 in
     record {
-        plain = subst IsPlain (sym word) (name_plain 16 m.0.name (body_named bodies bodies (n - 1) m.0 fits m.1));
-        again = ap (body_at (map (λ (b : Body). b.name) bodies)) word ∙ found_at bodies n m.0 differ few number.from_one m.1 }
+      plain = subst IsPlain (sym word) (name_plain 16 m.0.name (body_named bodies bodies (n - 1) m.0 fits m.1));
+      again = ap (body_at (map (λ (b : Body). b.name) bodies)) word ∙ found_at bodies n m.0 differ few number.from_one m.1;
+    }
 
 -- the kinds of the arguments of the first stage
 IsFirstKind : ArgumentKind → Type 0
@@ -98,16 +95,16 @@ record ArgAgain (names : List (List ℕ)) (bodies : List Body) (kind : ArgumentK
   plain : IsPlain (arg_word bodies kind argument)
   again : arg_at names kind (arg_word bodies kind argument) ≡ Some argument
 
-empty_list_word : (table : List (List ℕ)) (bits : ℕ) → bits ≡ 0 → list_word table bits ≡ dash
-unfolding list_word
-empty_list_word table bits e = rw e refl
+empty_list : (table : List (List ℕ)) (bits : ℕ) → bits ≡ 0 → list_text_of table bits ≡ dash
+unfolding list_text_of
+empty_list table bits e = rw e refl
 
 arg_again : (names : List (List ℕ)) (bodies : List Body) (kind : ArgumentKind) (argument : Arg) → AreFound names bodies → IsFirstKind kind → FitsArg bodies kind argument → IsFirstArg argument → ArgAgain names bodies kind argument
 unfolding IsFirstKind FitsArg IsFirstArg arg_word arg_at
 arg_again names bodies kinds.Value (args.Number number) found is fits first = record { plain = number_plain number fits; again = ap (option_map args.Number) (number_at_again number fits) }
 arg_again names bodies kinds.Value (args.Register register) found is fits first = absurd first
 arg_again names bodies kinds.Value _ found is fits first = absurd fits
-arg_again names bodies kinds.Attributes (args.List bits) found is fits first = record { plain = subst IsPlain (sym (empty_list_word (table_of kinds.Attributes) bits first)) (record { bytes = refl }); again = ap (λ (b : ℕ). Some (args.List b)) (sym first) }
+arg_again names bodies kinds.Attributes (args.List bits) found is fits first = record { plain = subst IsPlain (sym (empty_list (table_of kinds.Attributes) bits first)) (record { bytes = refl }); again = ap (λ (b : ℕ). Some (args.List b)) (sym first) }
 arg_again names bodies kinds.Attributes _ found is fits first = absurd fits
 arg_again names bodies kinds.TaskBody (args.Body n) found is fits first = record { plain = (found n fits).plain; again = ap (option_map args.Body) (found n fits).again }
 arg_again names bodies kinds.TaskBody _ found is fits first = absurd fits
@@ -126,8 +123,9 @@ args_again names bodies (kind ∷ form) (argument ∷ arguments) before found is
     let one = arg_again names bodies kind argument found is.0 fits.0 first.0 in
     let more = args_again names bodies form arguments (before ++ argument ∷ []) found is.1 fits.1 first.1 in
     record {
-        plain = (one.plain, more.plain);
-        again = rw one.again (more.again ∙ ap (λ (all : List Arg). Some all) (append_assoc before (argument ∷ []) arguments)) }
+      plain = (one.plain, more.plain);
+      again = rw one.again (more.again ∙ ap (λ (all : List Arg). Some all) (append_assoc before (argument ∷ []) arguments));
+    }
 
 -- the line of a statement is read as that statement
 record StmtAgain (names : List (List ℕ)) (bodies : List Body) (stmt : Stmt) : Type 0 where
@@ -142,10 +140,11 @@ sleep_again : (names : List (List ℕ)) (bodies : List Body) (arguments : List A
 unfolding stmt_words text_of form_of arg_words arg_word inside stmt_at begun
 sleep_again names bodies arguments e =
     subst (λ (given : List Arg). StmtAgain names bodies (Call TkSlpTsk given)) (sym e)
-        (record {
-            line = words_of (codes "tk_slp_tsk") (signed_decimal (negsuc 0) ∷ []) (record { bytes = refl }) (number_plain (negsuc 0) (record { sfits = omega arith }), tt);
-            read = λ done body. refl;
-            begins = refl })
+    (record {
+      line = words_of (codes "tk_slp_tsk") (signed_decimal (negsuc 0) ∷ []) (record { bytes = refl }) (number_plain (negsuc 0) (record { sfits = omega arith }), tt);
+      read = λ done body. refl;
+      begins = refl;
+    })
 
 no_begin : (name : CallName) (words : List (List ℕ)) → begun (text_of name ∷ words) ≡ None
 unfolding text_of begun
@@ -158,16 +157,18 @@ unfolding stmt_words
 call_again names bodies name arguments found is fits first read =
     let all = args_again names bodies (form_of name) arguments [] found is fits first in
     record {
-        line = words_of (text_of name) (arg_words bodies (form_of name) arguments) (call_plain name) all.plain;
-        read = λ done body. read (arg_words bodies (form_of name) arguments) done body ∙ ap (λ (o : Option (List Arg)). option_map (λ (stmt : Stmt). (done, Some (with_stmt body stmt))) (option_map (Call name) o)) all.again;
-        begins = no_begin name (arg_words bodies (form_of name) arguments) }
+      line = words_of (text_of name) (arg_words bodies (form_of name) arguments) (call_plain name) all.plain;
+      read = λ done body. read (arg_words bodies (form_of name) arguments) done body ∙ ap (λ (o : Option (List Arg)). option_map (λ (stmt : Stmt). (done, Some (with_stmt body stmt))) (option_map (Call name) o)) all.again;
+      begins = no_begin name (arg_words bodies (form_of name) arguments);
+    }
 
 stmt_again : (names : List (List ℕ)) (bodies : List Body) (body : Body) (stmt : Stmt) → AreFound names bodies → FitsStmt bodies body stmt → IsFirstStmt stmt → StmtAgain names bodies stmt
 unfolding IsFirstKind IsFirstStmt IsFirstCall FitsStmt stmt_words inside stmt_at say_at first_call begun text_of form_of
 stmt_again names bodies body (Say name) found fits first = record {
-    line = words_of (codes "say") (name ∷ []) (record { bytes = refl }) (name_plain 16 name fits, tt);
-    read = λ done b. rw (name_again name fits) refl;
-    begins = refl }
+  line = words_of (codes "say") (name ∷ []) (record { bytes = refl }) (name_plain 16 name fits, tt);
+  read = λ done b. rw (name_again name fits) refl;
+  begins = refl;
+}
 stmt_again names bodies body (Call TkCreTsk arguments) found fits first = call_again names bodies TkCreTsk arguments found (tt, (tt, (tt, (tt, tt)))) fits.1 first (λ words done b. refl)
 stmt_again names bodies body (Call TkStaTsk arguments) found fits first = call_again names bodies TkStaTsk arguments found (tt, (tt, tt)) fits.1 first (λ words done b. refl)
 stmt_again names bodies body (Call TkWupTsk arguments) found fits first = call_again names bodies TkWupTsk arguments found (tt, tt) fits.1 first (λ words done b. refl)
@@ -197,7 +198,7 @@ unfolding AllAgain bodies_at line_at
 stmts_again names bodies [] before name done rest all = ap (λ (stmts : List Stmt). bodies_at names rest done (Some (read_body name stmts))) (sym (append-nil before))
 stmts_again names bodies (stmt ∷ stmts) before name done rest all =
     rw (words_again (stmt_words bodies [] stmt) all.0.line, all.0.read done (read_body name before))
-        (stmts_again names bodies stmts (before ++ stmt ∷ []) name done rest all.1 ∙ ap (λ (whole : List Stmt). bodies_at names rest done (Some (read_body name whole))) (append_assoc before (stmt ∷ []) stmts))
+    (stmts_again names bodies stmts (before ++ stmt ∷ []) name done rest all.1 ∙ ap (λ (whole : List Stmt). bodies_at names rest done (Some (read_body name whole))) (append_assoc before (stmt ∷ []) stmts))
 
 stmts_begin_none : (names : List (List ℕ)) (bodies : List Body) (stmts : List Stmt) (rest : List (List ℕ)) → AllAgain names bodies stmts → body_names (map joined (stmt_lines bodies stmts) ++ rest) ≡ body_names rest
 unfolding AllAgain body_names
@@ -245,7 +246,7 @@ body_then : (names : List (List ℕ)) (bodies : List Body) (body : Body) (rest :
 body_then names bodies body rest again =
     ap (λ (lines : List (List (List ℕ))). map joined lines ++ rest) (lines_of_body names bodies body again)
     ∙ ap (λ (lines : List (List ℕ)). joined (body_head body.name) ∷ lines)
-        (ap (λ (lines : List (List ℕ)). lines ++ rest) (map_append (stmt_lines bodies body.stmts) (body_end ∷ [])) ∙ append_assoc (map joined (stmt_lines bodies body.stmts)) (joined body_end ∷ []) rest)
+    (ap (λ (lines : List (List ℕ)). lines ++ rest) (map_append (stmt_lines bodies body.stmts) (body_end ∷ [])) ∙ append_assoc (map joined (stmt_lines bodies body.stmts)) (joined body_end ∷ []) rest)
 
 begin_again : (names : List (List ℕ)) (name : List ℕ) (done : List Body) → name_at_most 16 name ≡ true → line_at names (joined (body_head name)) done None ≡ Some (done, Some (new_body name))
 unfolding line_at outside
@@ -260,16 +261,16 @@ unfolding bodies_at
 body_again names bodies body done rest again =
     ap (λ (lines : List (List ℕ)). bodies_at names lines done None) (body_then names bodies body rest again)
     ∙ rw (begin_again names body.name done again.name)
-        (stmts_again names bodies body.stmts [] body.name done (joined body_end ∷ rest) again.stmts
-        ∙ rw (end_again names done (read_body body.name body.stmts)) (ap (λ (b : Body). bodies_at names rest (done ++ b ∷ []) None) (same_body names bodies body again)))
+    (stmts_again names bodies body.stmts [] body.name done (joined body_end ∷ rest) again.stmts
+    ∙ rw (end_again names done (read_body body.name body.stmts)) (ap (λ (b : Body). bodies_at names rest (done ++ b ∷ []) None) (same_body names bodies body again)))
 
 names_of_body : (names : List (List ℕ)) (bodies : List Body) (body : Body) (rest : List (List ℕ)) → BodyAgain names bodies body → body_names (map joined (body_lines bodies body) ++ rest) ≡ body.name ∷ body_names rest
 unfolding body_names begun
 names_of_body names bodies body rest again =
     ap body_names (body_then names bodies body rest again)
     ∙ rw (words_again (body_head body.name) (head_line body.name again.name), name_again body.name again.name)
-        (ap (λ (more : List (List ℕ)). body.name ∷ more)
-            (stmts_begin_none names bodies body.stmts (joined body_end ∷ rest) again.stmts ∙ rw (words_again body_end end_line) refl))
+    (ap (λ (more : List (List ℕ)). body.name ∷ more)
+    (stmts_begin_none names bodies body.stmts (joined body_end ∷ rest) again.stmts ∙ rw (words_again body_end end_line) refl))
 
 -- the lines of bodies, and others behind them
 bodies_then : (bodies : List Body) (body : Body) (more : List Body) (rest : List (List ℕ)) → map joined (flat_map (body_lines bodies) (body ∷ more)) ++ rest ≡ map joined (body_lines bodies body) ++ (map joined (flat_map (body_lines bodies) more) ++ rest)
@@ -300,15 +301,16 @@ lines_all : (names : List (List ℕ)) (bodies more : List Body) → AllByRecursi
 lines_all names bodies [] all = tt
 lines_all names bodies (body ∷ more) all =
     all_both (body_lines bodies body) (flat_map (body_lines bodies) more)
-        (subst (AllByRecursion IsLine) (sym (lines_of_body names bodies body all.0))
-            (head_line body.name all.0.name, all_both (stmt_lines bodies body.stmts) (body_end ∷ []) (stmts_lines names bodies body.stmts all.0.stmts) (end_line, tt)))
-        (lines_all names bodies more all.1)
+    (subst (AllByRecursion IsLine) (sym (lines_of_body names bodies body all.0))
+    (head_line body.name all.0.name, all_both (stmt_lines bodies body.stmts) (body_end ∷ []) (stmts_lines names bodies body.stmts all.0.stmts) (end_line, tt)))
+    (lines_all names bodies more all.1)
 
 all_bodies_again : (names : List (List ℕ)) (bodies more : List Body) → AreFound names bodies → AllByRecursion (IsBody bodies) more → AllByRecursion IsFirstBody more → AllByRecursion (BodyAgain names bodies) more
 all_bodies_again names bodies [] found fits first = tt
-all_bodies_again names bodies (body ∷ more) found fits first =
-    (record { name = fits.0.name; kind = first.0.task; labels = first.0.no_labels; stmts = stmts_all_again names bodies body body.stmts found fits.0.statements first.0.statements },
-     all_bodies_again names bodies more found fits.1 first.1)
+all_bodies_again names bodies (body ∷ more) found fits first = (
+  record { name = fits.0.name; kind = first.0.task; labels = first.0.no_labels; stmts = stmts_all_again names bodies body body.stmts found fits.0.statements first.0.statements },
+  all_bodies_again names bodies more found fits.1 first.1,
+)
 
 -- what may lie behind the last body
 data IsTail : List (List ℕ) → Type 0 where
@@ -374,11 +376,12 @@ script_again script rest is first tail =
     let few : length names ≤ 255 = omega (arith, length-map bodies (λ (b : Body). b.name), is.few_bodies.1) in
     let read : bodies_at names lines [] None ≡ Some bodies = bodies_again names bodies bodies [] rest all ∙ tail_bodies names bodies rest tail in
     record {
-        lines = subst (AllByRecursion IsLine) (sym (first_lines script first)) (head_is_line, (boot_is_line, lines_all names bodies bodies all));
-        read =
-            ap (λ (ls : List (List (List ℕ))). script_at (map joined ls ++ rest)) (first_lines script first)
-            ∙ (ap (λ (ns : List (List ℕ)). script_from ns (joined (boot_words bodies script.boot)) lines) names_are
-            ∙ rw (le-leb (length names) 255 few, words_again (boot_words bodies script.boot) boot_is_line, boot_again names bodies script.boot boot_found is.boot_priority, read) (script_of_again script first is.bodies_differ)) }
+      lines = subst (AllByRecursion IsLine) (sym (first_lines script first)) (head_is_line, (boot_is_line, lines_all names bodies bodies all));
+      read =
+          ap (λ (ls : List (List (List ℕ))). script_at (map joined ls ++ rest)) (first_lines script first)
+          ∙ (ap (λ (ns : List (List ℕ)). script_from ns (joined (boot_words bodies script.boot)) lines) names_are
+          ∙ rw (le-leb (length names) 255 few, words_again (boot_words bodies script.boot) boot_is_line, boot_again names bodies script.boot boot_found is.boot_priority, read) (script_of_again script first is.bodies_differ));
+    }
 
 last_line : (text : List ℕ) → split_lines (text ++ 10 ∷ []) ≡ split_lines text ++ [] ∷ []
 unfolding split_lines
@@ -394,10 +397,11 @@ lines_are : (text : List ℕ) (script : Script) → AllByRecursion IsLine (print
 unfolding printed
 lines_are text script all (inl e) = record { rest = [] ∷ []; tail = blank; lines = ap split_lines (sym e) ∙ lines_again (printed_lines script) all }
 lines_are text script all (inr e) = record {
-    rest = [];
-    tail = nothing;
-    lines = append_cancel_right (split_lines text) (map joined (printed_lines script)) ([] ∷ []) (sym (last_line text) ∙ (ap split_lines (sym e) ∙ lines_again (printed_lines script) all))
-        ∙ sym (append-nil (map joined (printed_lines script))) }
+  rest = [];
+  tail = nothing;
+  lines = append_cancel_right (split_lines text) (map joined (printed_lines script)) ([] ∷ []) (sym (last_line text) ∙ (ap split_lines (sym e) ∙ lines_again (printed_lines script) all))
+      ∙ sym (append-nil (map joined (printed_lines script)));
+}
 
 either_true : (a b : Bool) → b ≡ true → (a || b) ≡ true
 either_true true b e = refl

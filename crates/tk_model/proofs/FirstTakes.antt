@@ -1,8 +1,6 @@
 -- What the first stage reads is a script of the first stage.
-use Rattle.std.proofs.Common.{◌≡◌, ◌∙◌, sym, refl, ap, subst, arith, inl, inr, ℕ, zero, suc, ◌+◌, ◌-◌, ◌<◌, ◌≤◌, Bool, true, false, cond, ltb, leb, not, ◌&&◌, ◌||◌, List, [], ◌∷◌, ◌++◌, map, length, Option, Some, None, append_assoc}
-use Rattle.std.specs.Prelude.{ℤ, negsuc, codes, bytes_eq, position, nat_le, nat_lt, ◌==◌, if◌then◌else◌, ◌⊎◌}
-use Rattle.std.specs.Int.{w32}
-use Rattle.std.specs.Int.RustNames.{FitsSigned}
+use Rattle.std.proofs.Common.{◌≡◌, ◌∙◌, sym, refl, ap, subst, arith, inl, inr, ℕ, zero, suc, ◌+◌, ◌-◌, ◌<◌, ◌≤◌, Bool, true, false, cond, ltb, ◌&&◌, ◌||◌, List, [], ◌∷◌, ◌++◌, map, length, Option, Some, None, append_assoc}
+use Rattle.std.specs.Prelude.{negsuc, codes, bytes_eq, nat_le, ◌==◌, ◌⊎◌}
 use Rattle.std.specs.List.{AllByRecursion, slice_get, position_or_len}
 use Rattle.std.specs.Option.{option_map, IfSome}
 use Rattle.std.proofs.lemmas.List.{append-nil}
@@ -24,7 +22,7 @@ use Rattle.tk_types.specs.declared.script.Arg.{Arg}
 use Rattle.tk_types.specs.declared.script.Arg.TheVariants as args
 use Rattle.tk_types.specs.declared.script.Stmt.{Stmt}
 use Rattle.tk_types.specs.declared.script.Stmt.TheVariants.{Say, Call}
-use Rattle.tk_model.specs.NumberWords.{number_at, natural_at}
+use Rattle.tk_model.specs.Decimals.{number_at, natural_at}
 use Rattle.tk_model.specs.ScriptText.{IsBodyNumber, IsBody, IsScript, IsBetween, FitsArg, FitsArgs, FitsStmt, MayCall, PlacesRise, StepsRise, all_differ, printed}
 use Rattle.tk_model.specs.ScriptReading.{and_then, IsFirstArg, IsFirstCall, IsFirstStmt, IsFirstBody, IsFirstStage, SpellsFirst, number_of_place, body_at, arg_at, args_at, first_call, call_at, name_at, say_at, stmt_at, Reached, new_body, with_stmt, closed, outside, inside, line_at, at_end, bodies_at, split_words, split_lines, body_names, priority_of, priority_at, boot_of, boot_at, are_numbered, script_of, script_from, script_at, is_form, compared, reading_first}
 use Rattle.tk_model.proofs.Choices.{both_true, value_chosen, chosen_some, read_next, read_mapped, same_value}
@@ -228,14 +226,16 @@ no_label_rises count (label ∷ labels) e = absurd (cc)
 
 bodies_fit : (count : ℕ) (all_bodies bodies : List Body) → AreTasks count all_bodies → AllByRecursion (TakenBody count) bodies → AllByRecursion (IsBody all_bodies) bodies
 bodies_fit count all_bodies [] tasks all = tt
-bodies_fit count all_bodies (body ∷ bodies) tasks all =
-    (record {
-        name = all.0.name;
-        labels = no_label_names body.labels all.0.labels;
-        labels_differ = no_label_differs body.labels all.0.labels;
-        places = no_label_rises (length body.stmts) body.labels all.0.labels;
-        statements = fits_all count all_bodies body body.stmts tasks all.0.kind all.0.stmts },
-     bodies_fit count all_bodies bodies tasks all.1)
+bodies_fit count all_bodies (body ∷ bodies) tasks all = (
+  record {
+    name = all.0.name;
+    labels = no_label_names body.labels all.0.labels;
+    labels_differ = no_label_differs body.labels all.0.labels;
+    places = no_label_rises (length body.stmts) body.labels all.0.labels;
+    statements = fits_all count all_bodies body body.stmts tasks all.0.kind all.0.stmts;
+  },
+  bodies_fit count all_bodies bodies tasks all.1,
+)
 
 bodies_first : (count : ℕ) (bodies : List Body) → AllByRecursion (TakenBody count) bodies → AllByRecursion IsFirstBody bodies
 bodies_first count [] all = tt
@@ -284,19 +284,21 @@ script_of_takes names boot bodies script few taken all e =
     let some : 1 ≤ length bodies = omega (arith, taken.from_one, taken.within) in
     let most : length bodies ≤ 255 = omega arith in
     subst TakenScript c.1 (record {
-        is = record {
-            few_devices = omega arith;
-            devices = tt;
-            devices_differ = no_device_differs;
-            pace = tt;
-            few_irqs = omega arith;
-            irqs = omega arith;
-            boot_body = tasks boot.body taken.from_one taken.within;
-            boot_priority = taken.priority;
-            few_bodies = (some, most);
-            bodies_differ = t.1;
-            bodies = bodies_fit (length names) bodies bodies tasks all };
-        first = record { no_devices = refl; no_pace = refl; no_irqs = refl; bodies = bodies_first (length names) bodies all } })
+      is = record {
+        few_devices = omega arith;
+        devices = tt;
+        devices_differ = no_device_differs;
+        pace = tt;
+        few_irqs = omega arith;
+        irqs = omega arith;
+        boot_body = tasks boot.body taken.from_one taken.within;
+        boot_priority = taken.priority;
+        few_bodies = (some, most);
+        bodies_differ = t.1;
+        bodies = bodies_fit (length names) bodies bodies tasks all;
+      };
+      first = record { no_devices = refl; no_pace = refl; no_irqs = refl; bodies = bodies_first (length names) bodies all };
+    })
 
 script_from_takes : (names : List (List ℕ)) (boot : List ℕ) (lines : List (List ℕ)) (script : Script) → script_from names boot lines ≡ Some script → TakenScript script
 unfolding script_from
@@ -331,7 +333,8 @@ reading_takes text script e =
     let f = value_chosen (is_form (printed n.0) text) n.0 script n.2 in
     let taken = subst TakenScript f.1 (script_takes (split_lines text) n.0 n.1) in
     record {
-        short = leb-true (length text) 1048576 c.0;
-        script_is = taken.is;
-        first = taken.first;
-        printed_form = form_takes (printed script) text (subst (λ (s : Script). is_form (printed s) text ≡ true) f.1 f.0) }
+      short = leb-true (length text) 1048576 c.0;
+      script_is = taken.is;
+      first = taken.first;
+      printed_form = form_takes (printed script) text (subst (λ (s : Script). is_form (printed s) text ≡ true) f.1 f.0);
+    }

@@ -1,5 +1,7 @@
 pub mod Choice
 pub mod Steps
+pub mod Precedence
+pub mod Preemption
 pub mod Choices
 pub mod NumberLaws
 pub mod FirstTakes

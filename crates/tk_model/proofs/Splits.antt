@@ -1,6 +1,6 @@
 -- Printed lines are cut into the lines and words that were printed.
-use Rattle.std.proofs.Common.{◌≡◌, ◌∙◌, sym, refl, ap, subst, arith, ℕ, suc, ◌+◌, ◌<◌, ◌≤◌, ◌/◌, ◌%◌, ◌^◌, Bool, true, false, cond, eqb, ltb, leb, not, ◌&&◌, ◌||◌, List, [], ◌∷◌, ◌++◌, map, length, append_assoc}
-use Rattle.std.specs.Prelude.{ℤ, pos, negsuc, codes, decimal, nat_lt, nat_le, ◌==◌, flat_map}
+use Rattle.std.proofs.Common.{◌≡◌, ◌∙◌, sym, refl, ap, arith, ℕ, suc, ◌+◌, ◌<◌, ◌≤◌, ◌%◌, ◌^◌, Bool, true, false, cond, not, ◌&&◌, ◌||◌, List, [], ◌∷◌, ◌++◌, map, length, append_assoc}
+use Rattle.std.specs.Prelude.{ℤ, pos, negsuc, decimal, nat_lt, nat_le, ◌==◌, flat_map}
 use Rattle.std.specs.Fmt.{signed_decimal}
 use Rattle.std.specs.Int.{w32}
 use Rattle.std.specs.Int.RustNames.{FitsSigned}
@@ -156,9 +156,9 @@ name_plain most word e =
 pub decimal_plain : (n : ℕ) → n < 2 ^ 64 → list_all (λ byte. nat_lt 32 byte) (decimal n) ≡ true
 decimal_plain n fits =
     decimal_by_steps (λ m ds. list_all (λ byte. nat_lt 32 byte) ds ≡ true)
-        (λ m low. both_of (nat_lt 32 (48 + m)) true (lt-ltb 32 (48 + m) (omega arith)) refl)
-        (λ m ds low all. all_append (λ byte. nat_lt 32 byte) ds ((48 + m % 10) ∷ []) all (both_of (nat_lt 32 (48 + m % 10)) true (lt-ltb 32 (48 + m % 10) (omega arith)) refl))
-        n fits
+    (λ m low. both_of (nat_lt 32 (48 + m)) true (lt-ltb 32 (48 + m) (omega arith)) refl)
+    (λ m ds low all. all_append (λ byte. nat_lt 32 byte) ds ((48 + m % 10) ∷ []) all (both_of (nat_lt 32 (48 + m % 10)) true (lt-ltb 32 (48 + m % 10) (omega arith)) refl))
+    n fits
 
 pub number_plain : (z : ℤ) → FitsSigned w32 z → IsPlain (signed_decimal z)
 number_plain (pos n) fits = record { bytes = decimal_plain n (omega (arith, fits.sfits)) }

@@ -1,12 +1,11 @@
 -- What every step keeps: a step of the budget is left, and the current task is the chosen one.
-use Rattle.std.proofs.Common.{◌≡◌, ℕ, ◌+◌, ◌<◌, ◌≤◌, Bool, true, false, List, [], ◌∷◌, Option, Some, None, refl, ap, arith}
+use Rattle.std.proofs.Common.{◌≡◌, ℕ, ◌+◌, ◌<◌, ◌≤◌, Bool, true, false, Option, Some, None, refl, ap, arith}
 use Rattle.std.specs.Bool.{◌==◌}
 use Rattle.std.proofs.lemmas.Bool.Decides.{nat_tests}
 use Rattle.tk_types.specs.declared.script.Script.{Script}
-use Rattle.tk_types.specs.declared.run.End.{End}
-use Rattle.tk_model.specs.Base.{Base, chosen, dispatch}
+use Rattle.tk_model.specs.Base.{chosen}
 use Rattle.tk_model.specs.State.{State}
-use Rattle.tk_model.specs.Step.{Event, Stepped, is_current, turned, dispatched, settled, counted_at, is_quiet, stepped_if, worked, step, with_releases}
+use Rattle.tk_model.specs.Step.{Event, is_current, turned, dispatched, counted_at, is_quiet, stepped_if, worked, step}
 
 -- the current task is the one that dispatching would choose
 abbrev pub IsTurned : State → Type 0

@@ -3,13 +3,13 @@
 -- `order` and `since` stand for stamps: a task takes the last place of `order` when it becomes READY, when it
 -- begins a wait, and when its current priority changes, and of `since` when it begins a wait. Only which task
 -- is earlier counts, so no numbers are kept. A preempted task keeps its place.
-use Rattle.std.specs.Prelude.{ℕ, ◌+◌, ◌-◌, ◌*◌, Bool, true, false, ◌==◌, ◌&&◌, nat_le, not, if◌then◌else◌, List, [], ◌∷◌, ◌++◌, Option, Some, None, filter, replicate, slice_set, drop}
+use Rattle.std.specs.Prelude.{ℕ, ◌+◌, Bool, true, false, ◌==◌, ◌&&◌, nat_le, if◌then◌else◌, List, [], ◌∷◌, ◌++◌, Option, Some, None, filter, replicate, slice_set, drop}
 use Rattle.tk_types.specs.declared.task.Task.{Task}
 use Rattle.tk_types.specs.declared.task.Phase.{Phase}
 use Rattle.tk_types.specs.declared.task.Phase.TheVariants.{Dormant, Ready, Waiting}
 use Rattle.tk_types.specs.declared.task.Release.{Release}
 use Rattle.tk_types.specs.declared.answer.Answer.{Answer}
-use Rattle.tk_model.specs.Orders.{entry, free_from, without, to_back, sort_by, head_or_zero}
+use Rattle.tk_model.specs.Orders.{entry, free_from, to_back, sort_by, head_or_zero}
 
 pub record Base : Type 0 where
   pub tasks : List (Option Task)  -- by ID, 256 slots

@@ -1,5 +1,6 @@
 pub mod Orders
 pub mod Choice
+pub mod Precedence
 pub mod Checks
 pub mod Base
 pub mod TaskCalls
@@ -9,7 +10,11 @@ pub mod Step
 pub mod Trace
 pub mod LineText
 pub mod Machine
-pub mod NumberWords
+pub mod Decimals
+pub mod Words
+pub mod Lists
 pub mod ScriptText
 pub mod ScriptReading
 pub mod Rows
+pub mod LineRanges
+pub mod Journal

@@ -1,5 +1,5 @@
 -- The texts of trace lines: words with one space between them.
-use Rattle.std.specs.Prelude.{ℕ, List, [], ◌∷◌, ◌++◌, ℤ, pos, negsuc, Option, Some, None, codes, decimal, map, take, flat_map}
+use Rattle.std.specs.Prelude.{ℕ, List, [], ◌∷◌, ◌++◌, ℤ, pos, negsuc, Option, Some, None, codes, decimal, map, take}
 use Rattle.std.specs.Fmt.{signed_decimal}
 use Rattle.tk_types.specs.declared.answer.Answer.{Answer}
 use Rattle.tk_types.specs.declared.error_code.Er.{Er}

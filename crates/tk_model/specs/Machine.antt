@@ -1,5 +1,5 @@
 -- What contracts see of a machine, and what its calls do to that.
-use Rattle.std.specs.Prelude.{ℕ, ◌≡◌, ◌<◌, ◌≤◌, Bool, true, false, List, [], ◌∷◌, ◌++◌, Option, Some, None}
+use Rattle.std.specs.Prelude.{ℕ, Bool, false, List, ◌++◌, Option, Some, None}
 use Rattle.tk_types.specs.declared.script.Script.{Script}
 use Rattle.tk_types.specs.declared.run.Mode.{Mode}
 use Rattle.tk_types.specs.declared.run.End.{End}
@@ -13,9 +13,9 @@ pub record Machine : Type 0 where
   pub mode : Mode
   pub budget : ℕ
   pub state : State
-  pub over : Option End      -- how the run ended, where it is over
-  pub failed : Bool          -- whether the host's memory ran out in a call
-  pub lines : List Line      -- the lines that weren't taken yet
+  pub over : Option End  -- how the run ended, where it is over
+  pub failed : Bool  -- whether the host's memory ran out in a call
+  pub lines : List Line  -- the lines that weren't taken yet
 
 -- a new machine has the line of its first dispatch
 abbrev pub new_machine : Script → Mode → ℕ → Machine
@@ -26,7 +26,8 @@ new_machine script mode budget = record {
   state = (start script).state;
   over = None;
   failed = false;
-  lines = (start script).lines }
+  lines = (start script).lines;
+}
 
 abbrev pub stepped_by : Machine → Stepped → Machine
 stepped_by m done = record m { state = done.state; over = done.over; lines = m.lines ++ done.lines }

@@ -1,6 +1,6 @@
 -- Words on tables and on orders. A table is a list of slots whose place is the ID, so that slot 0 stays free.
 -- An order is a list of IDs, each at most once, the earliest first.
-use Rattle.std.specs.Prelude.{ℕ, suc, ◌+◌, Bool, true, false, not, ◌==◌, nat_lt, if◌then◌else◌, List, [], ◌∷◌, ◌++◌, Option, Some, None, filter, fold, slice_get, slice_set}
+use Rattle.std.specs.Prelude.{ℕ, ◌+◌, not, ◌==◌, nat_lt, if◌then◌else◌, List, [], ◌∷◌, ◌++◌, Option, Some, None, filter, fold, slice_get}
 use Rattle.std.specs.Option.{option_flatten}
 
 -- what stands in a slot

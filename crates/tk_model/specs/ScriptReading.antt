@@ -1,6 +1,6 @@
 -- How a text is read as a script, in the first stage: the printed form alone, and few of the statements.
 -- A text is read without looking at each of its bytes; then what was read is printed, and the text has to be that.
-use Rattle.std.specs.Prelude.{◌≡◌, ◌⊎◌, ℕ, ℤ, negsuc, ◌+◌, ◌≤◌, Bool, nat_lt, nat_le, ◌==◌, ◌&&◌, ◌||◌, if◌then◌else◌, List, [], ◌∷◌, ◌++◌, map, length, Option, Some, None, codes, bytes_eq, position, option_map, option_to_list}
+use Rattle.std.specs.Prelude.{◌≡◌, ◌⊎◌, ℕ, negsuc, ◌+◌, ◌≤◌, Bool, nat_lt, nat_le, ◌==◌, ◌&&◌, ◌||◌, if◌then◌else◌, List, [], ◌∷◌, ◌++◌, map, length, Option, Some, None, codes, bytes_eq, position, option_map, option_to_list}
 use Rattle.std.specs.List.{slice_split, AllByRecursion}
 use Rattle.tk_types.specs.Names.{name_at_most}
 use Rattle.tk_types.specs.CallNames.{form_of}
@@ -19,7 +19,7 @@ use Rattle.tk_types.specs.declared.script.Arg.{Arg}
 use Rattle.tk_types.specs.declared.script.Arg.TheVariants as args
 use Rattle.tk_types.specs.declared.script.Stmt.{Stmt}
 use Rattle.tk_types.specs.declared.script.Stmt.TheVariants.{Say, Call}
-use Rattle.tk_model.specs.NumberWords.{number_at, natural_at}
+use Rattle.tk_model.specs.Decimals.{number_at, natural_at}
 use Rattle.tk_model.specs.ScriptText.{IsScript, printed, all_differ}
 
 -- what is read next, where something was read
@@ -203,7 +203,7 @@ script_of names boot bodies =
 unfoldable pub script_from : List (List ℕ) → List ℕ → List (List ℕ) → Option Script
 script_from names boot lines =
     if nat_le (length names) 255 then
-        and_then (boot_at names (split_words boot)) (λ boot. and_then (bodies_at names lines [] None) (λ bodies. script_of names boot bodies))
+    and_then (boot_at names (split_words boot)) (λ boot. and_then (bodies_at names lines [] None) (λ bodies. script_of names boot bodies))
     else None
 
 -- the script of lines. The first line is not looked at

@@ -1,11 +1,12 @@
 -- The text of a script, and what a script has to be. `printed` is the printed form: one space between words, and a
 -- line feed behind each line. Arguments are printed by their kinds, never by the call.
-use Rattle.std.specs.Prelude.{◌≡◌, ◌≢◌, ◌⊎◌, ℕ, ℤ, ◌+◌, ◌-◌, ◌/◌, ◌%◌, ◌^◌, ◌<◌, ◌≤◌, Bool, true, not, ◌==◌, ◌&&◌, if◌then◌else◌, List, [], ◌∷◌, ◌++◌, map, length, take, drop, Option, Some, None, IfSome, codes, bytes_eq, decimal, slice_get, option_map, flat_map, FitsSigned}
+use Rattle.std.specs.Prelude.{◌≡◌, ◌≢◌, ◌⊎◌, ℕ, ◌-◌, ◌^◌, ◌<◌, ◌≤◌, Bool, true, not, ◌==◌, ◌&&◌, if◌then◌else◌, List, [], ◌∷◌, ◌++◌, map, length, take, drop, Option, Some, None, IfSome, codes, bytes_eq, decimal, slice_get, option_map, flat_map, FitsSigned}
 use Rattle.std.specs.Fmt.{signed_decimal}
 use Rattle.std.specs.Int.{w32}
 use Rattle.std.specs.List.{list_any, AllByRecursion}
 use Rattle.tk_types.specs.Names.{name_at_most}
 use Rattle.tk_types.specs.CallNames.{text_of, form_of}
+use Rattle.tk_model.specs.Lists.{list_text_of}
 use Rattle.tk_types.specs.declared.modes.TheConstants.{ATTRIBUTE_WORDS, FLAG_MODE_WORDS, OPEN_MODE_WORDS, SUSPEND_MODE_WORDS}
 use Rattle.tk_types.specs.declared.call_name.ArgumentKind.{ArgumentKind}
 use Rattle.tk_types.specs.declared.call_name.ArgumentKind.TheVariants as kinds
@@ -32,7 +33,7 @@ use Rattle.tk_types.specs.declared.script.Arg.TheVariants as args
 use Rattle.tk_types.specs.declared.script.Stmt.{Stmt}
 use Rattle.tk_types.specs.declared.script.Stmt.TheVariants as stmts
 
--- what stands for no body, and for the empty list
+-- what stands for no body
 abbrev pub dash : List ℕ
 dash = 45 ∷ []
 
@@ -42,25 +43,6 @@ register_word register = 114 ∷ decimal register
 unfoldable pub operand_word : Operand → List ℕ
 operand_word (operands.Number number) = signed_decimal number
 operand_word (operands.Register register) = register_word register
-
--- the words of a table whose bits are set
-unfoldable pub chosen : List (List ℕ) → ℕ → List (List ℕ)
-chosen [] bits = []
-chosen (word ∷ table) bits = if bits % 2 == 1 then word ∷ chosen table (bits / 2) else chosen table (bits / 2)
-
--- a bar before each word
-unfoldable pub barred : List (List ℕ) → List ℕ
-barred [] = []
-barred (word ∷ words) = 124 ∷ (word ++ barred words)
-
--- the words with one bar between
-unfoldable pub bar_joined : List (List ℕ) → List ℕ
-bar_joined [] = []
-bar_joined (word ∷ words) = word ++ barred words
-
--- a list: its words with a bar between
-unfoldable pub list_word : List (List ℕ) → ℕ → List ℕ
-list_word table bits = if bits == 0 then dash else bar_joined (chosen table bits)
 
 -- the table of the words of a kind of list
 unfoldable pub table_of : ArgumentKind → List (List ℕ)
@@ -89,7 +71,7 @@ body_word bodies number = if number == 0 then dash else name_or_dash (slice_get 
 unfoldable pub arg_word : List Body → ArgumentKind → Arg → List ℕ
 arg_word bodies kind (args.Number number) = signed_decimal number
 arg_word bodies kind (args.Register register) = register_word register
-arg_word bodies kind (args.List bits) = list_word (table_of kind) bits
+arg_word bodies kind (args.List bits) = list_text_of (table_of kind) bits
 arg_word bodies kind (args.Body number) = body_word bodies number
 arg_word bodies kind (args.Name name) = name
 

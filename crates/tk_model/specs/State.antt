@@ -1,5 +1,5 @@
 -- The state of the machine: the parts that the kernel keeps, and what the script's bodies have come to.
-use Rattle.std.specs.Prelude.{ℕ, List, [], ◌∷◌, replicate, slice_set, pos}
+use Rattle.std.specs.Prelude.{ℕ, List, replicate, slice_set, pos}
 use Rattle.std.specs.List.{slice_index_or}
 use Rattle.tk_types.specs.declared.script.Script.{Script}
 use Rattle.tk_types.specs.declared.run.Frame.{Frame}

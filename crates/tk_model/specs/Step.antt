@@ -1,9 +1,8 @@
 -- A step of the machine, and the lines that it writes. The step is a statement of the current task. Its line
 -- comes first, then a line for each wait that it ended, then that of the dispatch.
-use Rattle.std.specs.Prelude.{ℕ, zero, suc, ◌+◌, Bool, true, false, ◌==◌, if◌then◌else◌, ℤ, pos, negsuc, List, [], ◌∷◌, ◌++◌, Option, Some, None, flat_map, slice_set, slice_index, unwrap_or, option_to_list, option_map}
+use Rattle.std.specs.Prelude.{ℕ, ◌+◌, Bool, true, false, ◌==◌, if◌then◌else◌, ℤ, pos, List, [], ◌∷◌, ◌++◌, Option, Some, None, flat_map, slice_set, slice_index, unwrap_or, option_to_list, option_map}
 use Rattle.std.specs.Ordering.{int_eq}
 use Rattle.tk_types.specs.declared.script.Script.{Script}
-use Rattle.tk_types.specs.declared.answer.Answer.{Answer}
 use Rattle.tk_types.specs.declared.answer.Outcome.{Outcome}
 use Rattle.tk_types.specs.declared.answer.Outcome.TheVariants.{Returned, Blocked, Entered}
 use Rattle.tk_types.specs.declared.answer.Who.TheVariants as whos
@@ -22,7 +21,6 @@ use Rattle.tk_types.specs.declared.run.End.TheVariants as ends
 use Rattle.tk_types.specs.declared.task.Release.{Release}
 use Rattle.tk_types.specs.declared.line.Line.{Line}
 use Rattle.tk_types.specs.declared.line.Line.TheVariants as lines
-use Rattle.tk_types.specs.declared.line.LastLine.{LastLine}
 use Rattle.tk_types.specs.declared.line.LastLine.TheVariants as lasts
 use Rattle.tk_types.specs.Calls.{name_of}
 use Rattle.tk_model.specs.Checks.{natural, failed, within}

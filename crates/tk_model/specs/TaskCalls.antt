@@ -1,11 +1,11 @@
 -- The system calls on tasks and on sleep: the checks of each in their order, and its effect.
-use Rattle.std.specs.Prelude.{ℕ, zero, suc, ◌+◌, ◌-◌, Bool, true, false, ◌==◌, ◌&&◌, ◌||◌, not, nat_le, nat_lt, if◌then◌else◌, ℤ, pos, negsuc, int_le, List, [], ◌∷◌, Option, Some, None}
+use Rattle.std.specs.Prelude.{ℕ, zero, suc, ◌+◌, Bool, ◌==◌, ◌||◌, not, nat_lt, if◌then◌else◌, ℤ, pos, negsuc, int_le, List, [], ◌∷◌, Option, Some, None}
 use Rattle.std.specs.Option.{is_some}
 use Rattle.std.specs.Ordering.{int_eq}
 use Rattle.tk_types.specs.declared.answer.Who.{Who}
 use Rattle.tk_types.specs.declared.answer.Who.TheVariants as whos
 use Rattle.tk_types.specs.declared.answer.Outcome.{Outcome}
-use Rattle.tk_types.specs.declared.answer.Outcome.TheVariants.{Returned, Blocked}
+use Rattle.tk_types.specs.declared.answer.Outcome.TheVariants.{Blocked}
 use Rattle.tk_types.specs.declared.error_code.Er.{Er}
 use Rattle.tk_types.specs.declared.error_code.Er.TheVariants as er
 use Rattle.tk_types.specs.declared.modes.Attributes.{Attributes}
@@ -44,26 +44,30 @@ unless_error None b effect = effect
 abbrev pub checked : List Check → Base → TaskDone → TaskDone
 checked checks b effect = unless_error (first_error checks) b effect
 
--- `tk_cre_tsk`: a DORMANT task with the least free ID
-unfoldable pub create_task : Base → Attributes → ℤ → ℤ → TaskDone
-create_task b attributes priority stack = checked (
+abbrev pub create_checks : Base → Attributes → ℤ → ℤ → List Check
+create_checks b attributes priority stack =
     (has_only_free attributes otherwise er.RsAtr)
     ∷ (within 1 140 priority otherwise er.Par)
     ∷ (within 1 1048576 stack otherwise er.Par)
     ∷ (not (free_task b == 0) otherwise er.Limit)
     ∷ (has_room b (natural stack) otherwise er.NoMem)
-    ∷ []) b
-    (record { base = create b (free_task b) (natural priority) (natural stack); outcome = done (pos (free_task b)) })
+    ∷ []
 
--- `tk_sta_tsk`: a DORMANT task becomes READY
-unfoldable pub start_task : Base → ℤ → ℤ → TaskDone
-start_task b task code = checked (
+-- `tk_cre_tsk`: a DORMANT task with the least free ID
+unfoldable pub create_task : Base → Attributes → ℤ → ℤ → TaskDone
+create_task b attributes priority stack = checked (create_checks b attributes priority stack) b (record { base = create b (free_task b) (natural priority) (natural stack); outcome = done (pos (free_task b)) })
+
+abbrev pub start_checks : Base → ℤ → ℤ → List Check
+start_checks b task code =
     (within 1 255 task otherwise er.Id)
     ∷ (int_le (pos 0) code otherwise er.Par)
     ∷ (is_some (task_at b (natural task)) otherwise er.NoExs)
     ∷ (is_dormant b (natural task) otherwise er.Obj)
-    ∷ []) b
-    (record { base = make_ready b (natural task); outcome = done (pos 0) })
+    ∷ []
+
+-- `tk_sta_tsk`: a DORMANT task becomes READY
+unfoldable pub start_task : Base → ℤ → ℤ → TaskDone
+start_task b task code = checked (start_checks b task code) b (record { base = make_ready b (natural task); outcome = done (pos 0) })
 
 -- `tk_ext_tsk`: the caller becomes DORMANT
 unfoldable pub exit_task : Base → Who → TaskDone
@@ -77,27 +81,31 @@ slept b t timeout zero =
     else record { base = make_wait b t sleep_object; outcome = Blocked }
 slept b t timeout (suc requests) = record { base = set_wakeups b t requests; outcome = done (pos 0) }
 
+abbrev pub sleep_checks : Base → Who → ℤ → List Check
+sleep_checks b who timeout =
+    (int_le (negsuc 0) timeout otherwise er.Par)
+    ∷ []
+
 -- `tk_slp_tsk`: the caller waits for a wake-up
 unfoldable pub sleep : Base → Who → ℤ → TaskDone
-sleep b who timeout = checked (
-    (int_le (negsuc 0) timeout otherwise er.Par)
-    ∷ []) b
-    (slept b (caller who) timeout (wakeups_of b (caller who)))
+sleep b who timeout = checked (sleep_checks b who timeout) b (slept b (caller who) timeout (wakeups_of b (caller who)))
 
 -- a wake-up ends a sleep, or is kept as a request
 abbrev pub woken : Base → ℕ → Base
 woken b t = if waits_for b sleep_object t then release b t (plain (pos 0)) else set_wakeups b t (wakeups_of b t + 1)
 
--- `tk_wup_tsk`: another task is woken
-unfoldable pub wake_up : Base → Who → ℤ → TaskDone
-wake_up b who task = checked (
+abbrev pub wake_up_checks : Base → Who → ℤ → List Check
+wake_up_checks b who task =
     (within 1 255 task otherwise er.Id)
     ∷ (is_some (task_at b (natural task)) otherwise er.NoExs)
     ∷ (not (natural task == caller who) otherwise er.Obj)
     ∷ (not (is_dormant b (natural task)) otherwise er.Obj)
     ∷ (takes_wakeup b (natural task) otherwise er.QOvr)
-    ∷ []) b
-    (record { base = woken b (natural task); outcome = done (pos 0) })
+    ∷ []
+
+-- `tk_wup_tsk`: another task is woken
+unfoldable pub wake_up : Base → Who → ℤ → TaskDone
+wake_up b who task = checked (wake_up_checks b who task) b (record { base = woken b (natural task); outcome = done (pos 0) })
 
 -- a call on tasks by its row
 unfoldable pub task_call : Base → Who → TaskCall → TaskDone

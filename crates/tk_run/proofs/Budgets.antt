@@ -1,7 +1,7 @@
 -- A word spells one number at most.
 use Rattle.std.proofs.Common.{◌≡◌, ℕ, ◌<◌, ◌^◌, List, Some, ap, ◌∙◌}
 use Rattle.std.specs.Fmt.{decimal}
-use Rattle.tk_text.specs.Decimals.{natural_at}
+use Rattle.tk_model.specs.Decimals.{natural_at}
 use Rattle.tk_text.proofs.Decimals.{natural_at_again}
 
 -- the number that was read is the one that the word spells

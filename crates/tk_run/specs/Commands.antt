@@ -1,7 +1,7 @@
 -- The words of the program, and the command that they are.
 use Rattle.std.specs.Prelude.{ℕ, ◌≤◌, nat_le, ◌&&◌, if◌then◌else◌, List, [], ◌∷◌, Option, Some, None, codes, bytes_eq, option_map}
 use Rattle.tk_types.specs.declared.run.Mode.TheVariants.{Free}
-use Rattle.tk_text.specs.Decimals.{natural_at}
+use Rattle.tk_model.specs.Decimals.{natural_at}
 use Rattle.tk_run.specs.declared.command.Command.{Command}
 use Rattle.tk_run.specs.declared.command.Command.TheVariants.{Run}
 

@@ -1,5 +1,5 @@
 -- Loops over lines: what is read, and what is left.
-use Rattle.std.proofs.Common.{◌≡◌, ◌∙◌, sym, ap, subst, refl, ℕ, ◌+◌, ◌<◌, ◌≤◌, List, [], ◌∷◌, ◌++◌, length, drop, get_or, Option, Some, None, Result, Ok, Err, Bor, add-one, append_assoc}
+use Rattle.std.proofs.Common.{◌≡◌, ◌∙◌, sym, ap, subst, refl, ℕ, ◌+◌, ◌<◌, ◌≤◌, List, ◌++◌, length, drop, get_or, Option, Some, Result, Err, Bor, add-one, append_assoc}
 use Rattle.std.proofs.Math.Seq.{drop-cons}
 use Rattle.std.proofs.lemmas.List.{drop_all, append-nil}
 use Rattle.std.specs.Option.{option_to_list}
@@ -8,7 +8,7 @@ use Rattle.tk_model.specs.ScriptReading.{Reached, and_then, line_at, at_end, bod
 use Rattle.tk_script.specs.declared.errors.ReadError.{ReadError}
 use Rattle.tk_script.specs.declared.errors.ReadError.TheVariants.{Memory, Later}
 use Rattle.tk_script.specs.Gives.{Gives}
-use Rattle.tk_script.specs.Words.{texts}
+use Rattle.tk_model.specs.Lists.{texts}
 
 pub next_names : (lines : List (Bor (List ℕ))) (i : ℕ) (d : Bor (List ℕ)) → i < length lines → body_names (texts (drop i lines)) ≡ option_to_list (begun (split_words (get_or lines i d).now)) ++ body_names (texts (drop (i + 1) lines))
 unfolding body_names

@@ -1,5 +1,5 @@
 -- What is answered, by what a text spells.
-use Rattle.std.proofs.Common.{◌≡◌, ◌∙◌, sym, ap, ℕ, List, Option, Some, None, refl, Result, Ok, Err, IfOk}
+use Rattle.std.proofs.Common.{◌≡◌, ◌∙◌, sym, ap, ℕ, List, Option, Some, None, Result, Ok, Err, IfOk}
 use Rattle.tk_types.specs.declared.memory.OutOfMemory.{OutOfMemory}
 use Rattle.tk_types.specs.declared.script.Script.{Script}
 use Rattle.tk_types.specs.declared.script.Reading.{Reading}

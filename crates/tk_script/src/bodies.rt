@@ -3,7 +3,7 @@
 ghost use Rattle.std.specs.Prelude.{◌≡◌, [], ◌∷◌, ◌++◌, None, IfOk, option_to_list};
 ghost use Rattle.tk_model.specs.ScriptReading.{outside, inside, line_at, at_end, closed, bodies_at, begun, body_names, new_body, with_stmt};
 ghost use Rattle.tk_script.specs.Gives.{Gives};
-ghost use Rattle.tk_script.specs.Words.{texts};
+ghost use Rattle.tk_model.specs.Lists.{texts};
 
 use crate::errors::ReadError;
 use crate::statements::stmt_at;

@@ -2,10 +2,10 @@
 
 ghost use Rattle.std.specs.Prelude.{◌≡◌};
 ghost use Rattle.tk_model.specs.ScriptReading.{boot_at, boot_of, priority_at};
-ghost use Rattle.tk_script.specs.Words.{texts};
+ghost use Rattle.tk_model.specs.Lists.{texts};
 
-use crate::decimal::natural;
 use crate::statements::body_at;
+use tk_text::natural;
 use tk_types::{Boot, Name};
 
 /// The greatest priority that a number names; the least is 1.

@@ -2,7 +2,6 @@
 #![tactic(auto)]
 
 mod bodies;
-mod decimal;
 mod errors;
 mod header;
 pub mod laws;

@@ -1,13 +1,14 @@
 //! Statements as printed lines.
 
 ghost use Rattle.std.specs.Prelude.{◌≡◌, ◌++◌, ◌∷◌, [], OnOk, codes, slice_get};
-ghost use Rattle.tk_model.specs.ScriptText.{chosen, barred, bar_joined, list_word, table_of, body_word, name_or_dash, register_word, operand_word, arg_word, arg_words, operation_word, condition_words, label_name, stmt_words, gaps, joined, line_text};
+ghost use Rattle.tk_model.specs.ScriptText.{table_of, body_word, name_or_dash, register_word, operand_word, arg_word, arg_words, operation_word, condition_words, label_name, stmt_words, gaps, joined, line_text};
 ghost use Rattle.tk_types.specs.CallNames.{form_of, text_of};
-ghost use Rattle.tk_script.specs.Words.{texts};
+ghost use Rattle.tk_model.specs.Lists.{texts};
 
 use crate::put::{
     put, put_end, put_next, put_next_operand, put_next_register, put_register, put_signed,
 };
+use tk_text::push_list;
 use tk_types::{
     ATTRIBUTE_WORDS, Arg, ArgumentKind, Body, CallName, Condition, FLAG_MODE_WORDS, Label,
     OPEN_MODE_WORDS, Operand, Operation, OutOfMemory, SUSPEND_MODE_WORDS, Stmt,
@@ -33,51 +34,6 @@ fn table_of(kind: ArgumentKind) -> &'static [&'static str]
         ArgumentKind::Label => &[],
         ArgumentKind::Text => &[],
     }
-}
-
-/// Puts the words of a table whose bits are set, with a bar before each.
-#[tactic(auto, using(std::proofs::Common::append_assoc), unfolding(tk_model::specs::ScriptText::chosen, tk_model::specs::ScriptText::barred))]
-fn put_barred(out: &mut Vec<u8>, table: &[&'static str], bits: u32) -> Result<(), OutOfMemory>
-    ensures { OnOk result (out.new.items ≡ out.old.items ++ barred (chosen (texts table.now) bits)) }
-{
-    match table {
-        [] => Ok(()),
-        [word, table @ ..] => {
-            if bits % 2 == 1 {
-                put(out, b"|")?;
-                put(out, word.as_bytes())?;
-            }
-            put_barred(out, table, bits / 2)
-        }
-    }
-}
-
-/// Puts the words of a table whose bits are set, with bars between them.
-#[tactic(auto, using(std::proofs::Common::append_assoc), unfolding(tk_model::specs::ScriptText::chosen, tk_model::specs::ScriptText::bar_joined))]
-fn put_chosen(out: &mut Vec<u8>, table: &[&'static str], bits: u32) -> Result<(), OutOfMemory>
-    ensures { OnOk result (out.new.items ≡ out.old.items ++ bar_joined (chosen (texts table.now) bits)) }
-{
-    match table {
-        [] => Ok(()),
-        [word, table @ ..] => {
-            if bits % 2 == 1 {
-                put(out, word.as_bytes())?;
-                return put_barred(out, table, bits / 2);
-            }
-            put_chosen(out, table, bits / 2)
-        }
-    }
-}
-
-/// Puts a list.
-#[tactic(auto, unfolding(tk_model::specs::ScriptText::list_word))]
-fn put_list(out: &mut Vec<u8>, table: &[&'static str], bits: u32) -> Result<(), OutOfMemory>
-    ensures { OnOk result (out.new.items ≡ out.old.items ++ list_word (texts table.now) bits) }
-{
-    if bits == 0 {
-        return put(out, b"-");
-    }
-    put_chosen(out, table, bits)
 }
 
 /// Puts the name of the body in that place, or a dash where there is none.
@@ -114,7 +70,7 @@ fn put_arg(
     match arg {
         Arg::Number(number) => put_signed(out, *number),
         Arg::Register(register) => put_register(out, *register),
-        Arg::List(bits) => put_list(out, table_of(kind), *bits),
+        Arg::List(bits) => push_list(out, table_of(kind), *bits),
         Arg::Body(number) => put_body(out, bodies, *number),
         Arg::Name(name) => put(out, name.as_bytes()),
     }

@@ -6,7 +6,7 @@ ghost use Rattle.tk_types.specs.declared.script.Body.{Body};
 ghost use Rattle.tk_model.specs.ScriptText.{printed, all_differ};
 ghost use Rattle.tk_model.specs.ScriptReading.{are_numbered, script_of, script_from, script_at, is_form, compared, reading_first};
 ghost use Rattle.tk_script.specs.Gives.{Gives};
-ghost use Rattle.tk_script.specs.Words.{texts};
+ghost use Rattle.tk_model.specs.Lists.{texts};
 
 use crate::bodies::{bodies_at, body_names};
 use crate::errors::ReadError;

@@ -6,11 +6,11 @@ ghost use Rattle.tk_types.specs.declared.script.Arg.TheVariants.{Number};
 ghost use Rattle.tk_types.specs.declared.script.Stmt.TheVariants.{Call};
 ghost use Rattle.tk_model.specs.ScriptReading.{arg_at, args_at, body_at, first_call, call_at, say_at, stmt_at};
 ghost use Rattle.tk_script.specs.Gives.{Gives};
-ghost use Rattle.tk_script.specs.Words.{texts};
+ghost use Rattle.tk_model.specs.Lists.{texts};
 
-use crate::decimal::number;
 use crate::errors::ReadError;
 use std::alloc::Global;
+use tk_text::number;
 use tk_types::{Arg, ArgumentKind, CallName, Name, Sequence, Stmt};
 
 /// The most bodies of a script.

@@ -2,7 +2,7 @@
 
 ghost use Rattle.std.specs.Prelude.{◌≡◌, IfOk};
 ghost use Rattle.tk_model.specs.ScriptReading.{split_lines, split_words};
-ghost use Rattle.tk_script.specs.Words.{texts};
+ghost use Rattle.tk_model.specs.Lists.{texts};
 
 use std::alloc::{AllocError, Global};
 

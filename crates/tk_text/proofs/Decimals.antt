@@ -1,5 +1,5 @@
 -- The two laws of numbers as words: what is read is spelled so, and what is spelled is read.
-use Rattle.std.proofs.Common.{◌≡◌, ℕ, ◌<◌, ◌^◌, Bool, true, false, cond, ◌&&◌, ltb, List, Option, Some, None, Result, Ok, Err, refl, sym, ap, ◌∙◌, subst, arith, ◌≢◌}
+use Rattle.std.proofs.Common.{◌≡◌, ℕ, ◌<◌, ◌^◌, ◌&&◌, ltb, List, Option, Some, None, Result, Ok, Err, refl, sym, ap, ◌∙◌, subst, arith, ◌≢◌}
 use Rattle.std.specs.Prelude.{ℤ, pos, negsuc}
 use Rattle.std.specs.Bool.{Decides}
 use Rattle.std.specs.Fmt.{decimal, signed_decimal}
@@ -15,7 +15,7 @@ use Rattle.std.proofs.lemmas.Slice.Eq.{bytes_eq-Decides}
 use Rattle.std.proofs.lemmas.Bool.Decides.{Decides-ltb, Decides-int_eq}
 use lib.Signed.{mag}
 use Rattle.tk_text.proofs.Options.{both_true, value_chosen, from_test, none_of}
-use Rattle.tk_text.specs.Decimals.{fits_i32, number_at, natural_at}
+use Rattle.tk_model.specs.Decimals.{fits_i32, number_at, natural_at}
 
 -- a number's text is UTF-8
 pub decimal_is_utf8 : (bs : List ℕ) (n : ℕ) → n < 2 ^ 64 → bs ≡ decimal n → IsUtf8 bs
@@ -58,8 +58,8 @@ signed_value_again z fits =
     let read : Result ℤ ℕ = Ok value in
     let wide : mag z < 2 ^ 63 = omega (arith, fits.sfits) in
     from_test (int_eq value z) (Decides-int_eq value z)
-        (λ other. let e : failed ≡ Ok z = parse-signed_decimal w32 z (signed_decimal z) failed fits wide refl
-            (λ is. let f : read ≡ Ok z = parse-signed_decimal w32 z (signed_decimal z) read fits wide refl (is, refl) in other (cc)) in cc)
+    (λ other. let e : failed ≡ Ok z = parse-signed_decimal w32 z (signed_decimal z) failed fits wide refl
+    (λ is. let f : read ≡ Ok z = parse-signed_decimal w32 z (signed_decimal z) read fits wide refl (is, refl) in other (cc)) in cc)
 
 pub natural_at_some : (word : List ℕ) (n : ℕ) → natural_at word ≡ Some n → (word ≡ decimal n) × (n < 2 ^ 64)
 unfolding natural_at

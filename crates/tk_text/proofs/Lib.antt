@@ -2,6 +2,8 @@ pub mod Decimals
 pub mod Cuts
 pub mod Faults
 pub mod Lists
+pub mod ListLaws
+pub mod ListTables
 pub mod Options
 pub mod Spans
 pub mod Tokens

@@ -1,11 +1,10 @@
 -- Lists of words of a table, both ways.
-use Rattle.std.proofs.Common.{◌≡◌, ℕ, ◌+◌, ◌*◌, ◌/◌, ◌%◌, ◌<◌, ◌≤◌, ◌^◌, Bool, true, false, not, cond, eqb, ◌&&◌, ◌||◌, List, [], ◌∷◌, ◌++◌, length, Option, Some, None, refl, sym, ap, ◌∙◌, subst, append-nil, arith}
-use Rattle.std.specs.List.{slice_split, onto_first, join_with_byte, list_all, list_any}
+use Rattle.std.proofs.Common.{◌≡◌, ℕ, ◌<◌, Bool, true, false, cond, eqb, List, [], ◌∷◌, ◌++◌, length, Option, Some, None, refl, sym, ap, subst, append-nil, arith}
+use Rattle.std.specs.List.{slice_split, onto_first, join_with_byte}
 use Rattle.std.specs.Option.{option_copied}
-use Rattle.std.specs.Str.{bytes_eq}
-use Rattle.tk_text.specs.Words.{parts_of}
+use Rattle.tk_model.specs.Words.{parts_of}
 use Rattle.tk_text.specs.Tokens.{parts_left}
-use Rattle.tk_text.specs.Lists.{texts, chosen, with_bit, without_bit, bits_of, list_at, list_text_of, barred, between_bars, is_list_byte, is_table}
+use Rattle.tk_model.specs.Lists.{texts, bits_of, barred, between_bars}
 use denote.Ref.{Bor}
 
 -- there is always a part

@@ -1,12 +1,12 @@
 -- The tokens of a text have its words, and their spans rise.
-use Rattle.std.proofs.Common.{◌≡◌, ℕ, zero, suc, ◌+◌, ◌-◌, ◌<◌, ◌≤◌, Bool, true, false, cond, eqb, ltb, List, [], ◌∷◌, ◌++◌, length, take, drop, map, subst, sym, ap, ◌∙◌, append_assoc, append-nil, arith, refl, length-append}
+use Rattle.std.proofs.Common.{◌≡◌, ℕ, zero, suc, ◌+◌, ◌-◌, ◌<◌, ◌≤◌, true, false, cond, eqb, List, [], ◌∷◌, ◌++◌, length, get_or, take, map, sym, ap, ◌∙◌, append_assoc, append-nil, arith, refl, length-append}
 use Rattle.std.specs.Prelude.{slice_range}
 use Rattle.std.specs.List.{filter, join_with_byte}
 use Rattle.std.proofs.lemmas.List.{take_at, take_all, drop_at, map-append}
 use Rattle.std.proofs.lemmas.List.Splits.{join_with_byte-slice_split, length-slice_split}
 use Rattle.std.proofs.lemmas.List.Sums.{count_by-le-length}
 use Rattle.std.proofs.lemmas.Bool.Decides.{nat_tests}
-use Rattle.tk_text.specs.Words.{parts_of, lines_of, is_word, numbered, words_of, words_from}
+use Rattle.tk_model.specs.Words.{parts_of, lines_of, is_word, numbered, words_from}
 use Rattle.tk_text.specs.Tokens.{part_token, line_tokens, text_tokens, read_token, SpansRise}
 use Rattle.tk_text.specs.declared.token.Token.{Token}
 
@@ -22,8 +22,7 @@ part_read text front [] back number at whole begins = refl
 part_read text front (byte ∷ bytes) back number at whole begins =
     let part = byte ∷ bytes in
     let some : eqb (length part) 0 ≡ false = grind (arith, nat_tests) in
-    let more : ltb 0 (length part) ≡ true = grind (arith, nat_tests) in
-    rw (some, more) (ap (λ (word : List ℕ). (number, word) ∷ []) (between_ends text front part back at (length part) whole begins refl))
+    rw some (ap (λ (word : List ℕ). (number, word) ∷ []) (between_ends text front part back at (length part) whole begins refl))
 
 -- two lists read one after the other
 both_read : {A B : Type 0} (f : A → B) (xs ys : List A) (us vs : List B) → map f xs ≡ us → map f ys ≡ vs → map f (xs ++ ys) ≡ us ++ vs
@@ -102,7 +101,7 @@ parts_rise low end number at (part ∷ next ∷ more) later from to go =
     let size = with_mark 32 part (join_with_byte 32 (next ∷ more)) in
     rw (append_assoc (part_token number at (length part)) (line_tokens number (at + (length part + 1)) (next ∷ more)) later)
     (part_rise low end number at part (line_tokens number (at + (length part + 1)) (next ∷ more) ++ later) from (omega arith)
-        (λ mid m. parts_rise mid end number (at + (length part + 1)) (next ∷ more) later (omega arith) (omega arith) (λ last l. go last (omega arith))))
+    (λ mid m. parts_rise mid end number (at + (length part + 1)) (next ∷ more) later (omega arith) (omega arith) (λ last l. go last (omega arith))))
 
 none_rise : (low end number at count : ℕ) → SpansRise low end (text_tokens number at (take count []))
 unfolding text_tokens SpansRise
@@ -121,12 +120,12 @@ text_rise low end number at (suc count) [] from to = none_rise low end number at
 text_rise low end number at (suc count) (line ∷ []) from to =
     let size = line_length line in
     parts_rise low end number at (parts_of 32 line) (text_tokens (number + 1) (at + (length line + 1)) (take count [])) from (omega arith)
-        (λ mid m. none_rise mid end (number + 1) (at + (length line + 1)) count)
+    (λ mid m. none_rise mid end (number + 1) (at + (length line + 1)) count)
 text_rise low end number at (suc count) (line ∷ next ∷ more) from to =
     let size = line_length line in
     let whole = with_mark 10 line (join_with_byte 10 (next ∷ more)) in
     parts_rise low end number at (parts_of 32 line) (text_tokens (number + 1) (at + (length line + 1)) (take count (next ∷ more))) from (omega arith)
-        (λ mid m. text_rise mid end (number + 1) (at + (length line + 1)) count (next ∷ more) (omega arith) (omega arith))
+    (λ mid m. text_rise mid end (number + 1) (at + (length line + 1)) count (next ∷ more) (omega arith) (omega arith))
 
 -- the tokens of the first lines of a text
 pub first_words : (text : List ℕ) (most : ℕ) → map (read_token text) (text_tokens 1 0 (take most (lines_of text))) ≡ words_from 1 (take most (lines_of text))
@@ -143,3 +142,10 @@ first_rise text most =
 pub all_lines : (text : List ℕ) → take (length text + 1) (lines_of text) ≡ lines_of text
 unfolding parts_of
 all_lines text = take_all (length text + 1) (lines_of text) (omega (arith, length-slice_split (λ byte. eqb byte 10) text, count_by-le-length (λ byte. eqb byte 10) text))
+
+-- a span that lies among rising ones
+pub span_at : (low end : ℕ) (tokens : List Token) (i : ℕ) (d : Token) → SpansRise low end tokens → i < length tokens → ((get_or tokens i d).from < (get_or tokens i d).to) × ((get_or tokens i d).to ≤ end)
+unfolding SpansRise
+span_at low end [] i d rise lt = absurd (omega arith)
+span_at low end (token ∷ tokens) zero d rise lt = (rise.1, rise.2)
+span_at low end (token ∷ tokens) (suc i) d rise lt = span_at token.to end tokens i d rise.3 (omega arith)

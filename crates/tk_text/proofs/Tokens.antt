@@ -1,7 +1,7 @@
 -- Tokens of parts and of lines, one after another.
-use Rattle.std.proofs.Common.{◌≡◌, ℕ, ◌+◌, ◌-◌, ◌<◌, List, [], ◌∷◌, ◌++◌, length, take, subst, sym, ap, ◌∙◌, append_assoc, append-nil, arith, suc, refl}
+use Rattle.std.proofs.Common.{◌≡◌, ℕ, ◌+◌, ◌-◌, ◌<◌, List, [], ◌∷◌, ◌++◌, length, take, subst, ap, ◌∙◌, append_assoc, append-nil, arith, suc}
 use Rattle.std.proofs.lemmas.List.{take_all}
-use Rattle.tk_text.specs.Words.{parts_of}
+use Rattle.tk_model.specs.Words.{parts_of}
 use Rattle.tk_text.specs.Tokens.{part_token, line_tokens, text_tokens}
 use Rattle.tk_text.specs.declared.token.Token.{Token}
 

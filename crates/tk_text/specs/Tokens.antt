@@ -1,6 +1,6 @@
 -- Tokens: where the words of a text lie.
 use Rattle.std.specs.Prelude.{ℕ, ◌+◌, ◌<◌, ◌≤◌, ◌==◌, if◌then◌else◌, List, [], ◌∷◌, ◌++◌, length, Option, Some, None, slice_range}
-use Rattle.tk_text.specs.Words.{parts_of, lines_of}
+use Rattle.tk_model.specs.Words.{parts_of}
 use Rattle.tk_text.specs.declared.token.Token.{Token}
 
 -- the parts of what is left

@@ -4,7 +4,7 @@ ghost use Rattle.std.specs.Prelude.{◌≡◌, ◌≢◌, ℕ, ℤ, ◌<◌, ◌
 ghost use Rattle.std.specs.Fmt.{decimal, signed_decimal};
 ghost use Rattle.std.specs.Int.{w32};
 ghost use Rattle.std.specs.Int.RustNames.{FitsSigned};
-ghost use Rattle.tk_text.specs.Decimals.{natural_at, number_at};
+ghost use Rattle.tk_model.specs.Decimals.{natural_at, number_at};
 
 use itoa::Buffer;
 use std::str;

@@ -3,9 +3,10 @@
 ghost use Rattle.std.specs.Prelude.{◌≡◌, ◌<◌, ◌^◌, false, length, IfSome};
 ghost use Rattle.std.specs.Option.{option_map};
 ghost use Rattle.std.specs.List.{list_all};
-ghost use Rattle.tk_text.specs.Words.{is_text_byte, line_fault, fault_at};
+ghost use Rattle.tk_text.specs.Scans.{IsFirstFault};
+ghost use Rattle.tk_model.specs.Words.{is_text_byte, line_fault, fault_at};
 
-use crate::cut::cut;
+use crate::cutting::cut;
 use crate::token::TextFault;
 use tk_types::Why;
 
@@ -13,7 +14,7 @@ use tk_types::Why;
 const LONGEST_LINE: usize = 200;
 
 /// Whether a byte may stand in a line.
-#[tactic(auto, unfolding(crate::specs::Words::is_text_byte))]
+#[tactic(auto, unfolding(tk_model::specs::Words::is_text_byte))]
 fn is_text_byte(byte: u8) -> bool
     ensures { result ≡ is_text_byte byte }
 {
@@ -28,8 +29,8 @@ fn is_text_line(line: &[u8]) -> bool
 }
 
 /// What a line shows by itself: first a byte that may not stand there, then too many bytes.
-#[tactic(auto, unfolding(crate::specs::Words::line_fault), using(crate::proofs::Faults::fault_has_bytes))]
-fn line_fault(line: &[u8]) -> Option<Why>
+#[tactic(auto, unfolding(tk_model::specs::Words::line_fault), using(crate::proofs::Faults::fault_has_bytes))]
+pub fn line_fault(line: &[u8]) -> Option<Why>
     ensures value { result ≡ line_fault line.now }
     ensures bytes { IfSome result (λ _. 0 < length line.now) }
 {
@@ -43,9 +44,8 @@ fn line_fault(line: &[u8]) -> Option<Why>
     }
 }
 
-/// The first line that shows a fault by itself: a byte that isn't printable ASCII, or more than 200 bytes before
-/// its line feed. It takes no memory. The text has fewer than 2 to the power of 32 bytes.
-pub fn fault_of(text: &[u8]) -> Option<TextFault>
+/// The first of the lines that shows a fault by itself.
+fn first_fault(text: &[u8]) -> Option<TextFault>
     requires { length text.now < 2 ^ 32 }
     ensures { option_map (λ fault. (fault.line, fault.why)) result ≡ fault_at text.now }
 {
@@ -63,4 +63,14 @@ pub fn fault_of(text: &[u8]) -> Option<TextFault>
         left = rest;
     }
     None
+}
+
+/// The first line that shows a fault by itself: a byte that isn't printable ASCII, or more than 200 bytes before
+/// its line feed. It takes no memory. The text has fewer than 2 to the power of 32 bytes.
+pub fn fault_of(text: &[u8]) -> Option<TextFault>
+    requires { length text.now < 2 ^ 32 }
+    ensures value { option_map (λ fault. (fault.line, fault.why)) result ≡ fault_at text.now }
+    ensures first { IfSome result (IsFirstFault text.now) }
+{
+    first_fault(text)
 }

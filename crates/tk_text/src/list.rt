@@ -1,15 +1,15 @@
 //! Lists: `-`, or words of a table in the table's order, none twice, with `|` between.
 
-ghost use Rattle.std.specs.Prelude.{◌≡◌, ◌<◌, ◌≤◌, ◌^◌, ◌++◌, length, IfSome, OnOk};
+ghost use Rattle.std.specs.Prelude.{◌≡◌, ◌≢◌, ℕ, ◌<◌, ◌≤◌, ◌^◌, ◌++◌, true, length, IfSome, IfNone, OnOk};
 ghost use Rattle.std.specs.Option.{option_copied};
-ghost use Rattle.tk_text.specs.Lists.{texts, chosen, bits_of, list_at, list_text_of, barred, between_bars};
+ghost use Rattle.tk_model.specs.Lists.{texts, chosen, bits_of, list_at, list_text_of, barred, between_bars, is_table};
 ghost use Rattle.tk_text.specs.Tokens.{parts_left};
 
-use crate::cut::cut;
+use crate::cutting::cut;
 use tk_types::OutOfMemory;
 
 /// The bits of the parts that are left, which must be words of the table in its order.
-#[tactic(auto, unfolding(crate::specs::Lists::bits_of))]
+#[tactic(auto, unfolding(tk_model::specs::Lists::bits_of))]
 fn bits_of(table: &[&'static str], left: Option<&[u8]>) -> Option<u32>
     requires { length table.now ≤ 31 }
     ensures value { result ≡ bits_of (texts table.now) (parts_left 124 (option_copied left.entry)) }
@@ -36,10 +36,9 @@ fn bits_of(table: &[&'static str], left: Option<&[u8]>) -> Option<u32>
     }
 }
 
-/// The bits of a word that is a list of a table of at most 31 words: the lowest bit stands for the first word.
-/// `None` where the word is no list.
-#[tactic(auto, unfolding(crate::specs::Lists::list_at))]
-pub fn list_bits(table: &[&'static str], word: &[u8]) -> Option<u32>
+/// The bits of a word that is `-` or has the table's words with bars between.
+#[tactic(auto, unfolding(tk_model::specs::Lists::list_at))]
+fn bits_of_word(table: &[&'static str], word: &[u8]) -> Option<u32>
     requires { length table.now ≤ 31 }
     ensures value { result ≡ list_at (texts table.now) word.now }
     ensures below { IfSome result (λ bits. bits < 2 ^ length table.now) }
@@ -50,8 +49,20 @@ pub fn list_bits(table: &[&'static str], word: &[u8]) -> Option<u32>
     bits_of(table, Some(word))
 }
 
+/// The bits of a word that is a list of a table of at most 31 words: the lowest bit stands for the first word.
+/// `None` where the word is no list.
+pub fn list_bits(table: &[&'static str], word: &[u8]) -> Option<u32>
+    requires { length table.now ≤ 31 }
+    ensures value { result ≡ list_at (texts table.now) word.now }
+    ensures below { IfSome result (λ bits. bits < 2 ^ length table.now) }
+    ensures some { IfSome result (λ bits. list_text_of (texts table.now) bits ≡ word.now) }
+    ensures none { is_table (texts table.now) ≡ true → IfNone result ((bits : ℕ) → bits < 2 ^ length table.now → list_text_of (texts table.now) bits ≢ word.now) }
+{
+    bits_of_word(table, word)
+}
+
 /// Puts the words whose bits are set behind what is there, with a bar before each.
-#[tactic(auto, unfolding(crate::specs::Lists::chosen, crate::specs::Lists::barred))]
+#[tactic(auto, unfolding(tk_model::specs::Lists::chosen, tk_model::specs::Lists::barred))]
 fn push_barred(out: &mut Vec<u8>, table: &[&'static str], bits: u32) -> Result<(), OutOfMemory>
     ensures { OnOk result (out.new.items ≡ out.old.items ++ barred (chosen (texts table.now) bits)) }
 {
@@ -69,7 +80,7 @@ fn push_barred(out: &mut Vec<u8>, table: &[&'static str], bits: u32) -> Result<(
 }
 
 /// Puts the words whose bits are set behind what is there, with a bar between.
-#[tactic(auto, unfolding(crate::specs::Lists::chosen, crate::specs::Lists::between_bars))]
+#[tactic(auto, unfolding(tk_model::specs::Lists::chosen, tk_model::specs::Lists::between_bars))]
 fn push_chosen(out: &mut Vec<u8>, table: &[&'static str], bits: u32) -> Result<(), OutOfMemory>
     ensures { OnOk result (out.new.items ≡ out.old.items ++ between_bars (chosen (texts table.now) bits)) }
 {
@@ -86,7 +97,7 @@ fn push_chosen(out: &mut Vec<u8>, table: &[&'static str], bits: u32) -> Result<(
 }
 
 /// Puts the list that has these bits behind what is there. Where memory runs out, a front of it may be there.
-#[tactic(auto, unfolding(crate::specs::Lists::list_text_of), using(crate::proofs::Lists::joined))]
+#[tactic(auto, unfolding(tk_model::specs::Lists::list_text_of), using(crate::proofs::Lists::joined))]
 pub fn push_list(out: &mut Vec<u8>, table: &[&'static str], bits: u32) -> Result<(), OutOfMemory>
     ensures { OnOk result (out.new.items ≡ out.old.items ++ list_text_of (texts table.now) bits) }
 {

@@ -1,11 +1,11 @@
 //! A text as its words.
 
 ghost use Rattle.std.specs.Prelude.{◌≡◌, ◌+◌, ◌-◌, ◌<◌, ◌≤◌, ◌^◌, [], ◌++◌, length, map, take, OnOk, IfOk};
-ghost use Rattle.tk_text.specs.Words.{parts_of, lines_of, words_from, numbered_words};
+ghost use Rattle.tk_model.specs.Words.{parts_of, lines_of, words_from, numbered_words};
 ghost use Rattle.tk_text.specs.Scans.{IsScan};
 ghost use Rattle.tk_text.specs.Tokens.{part_token, line_tokens, text_tokens, read_token, SpansRise};
 
-use crate::cut::cut;
+use crate::cutting::cut;
 use crate::fault::fault_of;
 use crate::token::{Scanned, Token, Tokens};
 use std::alloc::Global;
@@ -28,7 +28,12 @@ fn push_part(tokens: &mut Tokens, number: usize, at: usize, size: usize) -> Resu
 }
 
 /// Puts the tokens of a line behind the others. The line has this number, and its first byte lies at `start`.
-fn push_line(tokens: &mut Tokens, number: usize, start: usize, line: &[u8]) -> Result<(), OutOfMemory>
+fn push_line(
+    tokens: &mut Tokens,
+    number: usize,
+    start: usize,
+    line: &[u8],
+) -> Result<(), OutOfMemory>
     requires counted { number ≤ start + 1 }
     requires room { start + length line.now < 2 ^ 32 }
     ensures { OnOk result (tokens.new ≡ tokens.old ++ line_tokens number start (parts_of 32 line.now)) }

@@ -6,9 +6,7 @@ ghost use Rattle.tk_types.specs.CallNames.{text_of};
 ghost use Rattle.tk_model.specs.LineText.{error_of, value_text, answer_words, ending_words, handler_text, hook_words, end_words, spaced, text_of_line, text_of_lines};
 
 use itoa::Buffer;
-use tk_types::{
-    Answer, CallName, Er, HandlerKind, Hook, LastLine, Line, LineEnding, OutOfMemory,
-};
+use tk_types::{Answer, CallName, Er, HandlerKind, Hook, LastLine, Line, LineEnding, OutOfMemory};
 
 /// Puts bytes behind the text.
 fn put(bytes: &[u8], out: &mut Vec<u8>) -> Result<(), OutOfMemory>
@@ -279,7 +277,8 @@ fn put_line(line: &Line, out: &mut Vec<u8>) -> Result<(), OutOfMemory>
     }
 }
 
-/// Appends the text of a line, without a line feed. Where memory runs out `out` stays as it was.
+/// Appends the text of a line, without a line feed: its words with one space between them. Where memory runs out
+/// `out` stays as it was.
 pub fn line_text(line: &Line, out: &mut Vec<u8>) -> Result<(), OutOfMemory>
     ensures grown { OnOk result (out.new.items ≡ out.old.items ++ text_of_line line.now) }
     ensures kept { OnErr result (out.new.items ≡ out.old.items) }

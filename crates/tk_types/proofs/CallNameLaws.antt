@@ -1,5 +1,5 @@
 -- Laws of the table of calls. Each goes through all names, since a last case is checked for each of them.
-use Rattle.std.specs.Prelude.{ℕ, Option, Some, Bool, true, false, List, not, ◌==◌, ◌≡◌, refl}
+use Rattle.std.specs.Prelude.{Some, true, not, nat_lt, ◌==◌, ◌≡◌, refl}
 use Rattle.std.specs.List.{list_all}
 use Rattle.tk_types.specs.declared.call_name.CallName.{CallName}
 use Rattle.tk_types.specs.declared.call_name.CallName.TheVariants.{TkCreTsk}
@@ -16,3 +16,9 @@ pub text_of_spaceless : (name : CallName) → list_all (λ byte. not (byte == 32
 unfolding text_of
 text_of_spaceless TkCreTsk = refl
 text_of_spaceless _ = refl
+
+-- each byte of a spelling is printed, and none is a space
+pub text_of_plain : (name : CallName) → list_all (nat_lt 32) (text_of name) ≡ true
+unfolding text_of
+text_of_plain TkCreTsk = refl
+text_of_plain _ = refl

@@ -1,5 +1,5 @@
 -- The table of the main error codes: number and name of each.
-use Rattle.std.specs.Prelude.{ℕ, ℤ, pos, negsuc, Option, List, codes, find}
+use Rattle.std.specs.Prelude.{ℕ, ℤ, pos, negsuc, Option, List, codes, find, bytes_eq}
 use Rattle.std.specs.Ordering.{int_eq}
 use Rattle.tk_types.specs.declared.error_code.Er.{Er}
 use Rattle.tk_types.specs.declared.error_code.Er.TheVariants.{Ok as Fine, RsFn, RsAtr, Par, Id, Ctx, OaCv, IlUse, NoMem, Limit, Obj, NoExs, QOvr, RlWai, TmOut, Dlt, Io, Busy, Abort, Sys, NoCop, NoSpt, MaCv, DisWai, NoMda, RoNly}
@@ -66,3 +66,7 @@ error_text RoNly = codes "E_RONLY"
 -- the code with that number
 unfoldable pub coded : ℤ → Option Er
 coded number = find (λ error. int_eq (code_of error) number) ALL
+
+-- the code with that name
+unfoldable pub error_named : List ℕ → Option Er
+error_named word = find (λ error. bytes_eq (error_text error) word) ALL

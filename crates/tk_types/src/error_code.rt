@@ -1,7 +1,7 @@
 //! The main error codes of the kernel.
 
 ghost use Rattle.std.specs.Prelude.{◌≡◌, Option};
-ghost use Rattle.tk_types.specs.Codes.{code_of, coded, error_text};
+ghost use Rattle.tk_types.specs.Codes.{code_of, coded, error_named, error_text};
 
 /// A main error code. The last seven are named so that a trace can print them; no call answers them by
 /// itself.
@@ -168,5 +168,15 @@ impl Er {
         ensures { result ≡ coded code }
     {
         ALL.iter().copied().find(|error| error.main_code() == code)
+    }
+
+    /// The code with that name; none exactly where the table has no such name.
+    #[tactic(auto, unfolding(crate::specs::Codes::error_named))]
+    pub fn of_name(word: &[u8]) -> Option<Er>
+        ensures { result ≡ error_named word.now }
+    {
+        ALL.iter()
+            .copied()
+            .find(|error| error.name().as_bytes() == word)
     }
 }

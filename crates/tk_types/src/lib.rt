@@ -22,7 +22,7 @@ pub use calls::{
     TimeCall,
 };
 pub use error_code::Er;
-pub use line::{HandlerKind, Hook, LastLine, Line, LineEnding};
+pub use line::{Entry, HandlerKind, Hook, How, LastLine, Line, LineEnding};
 pub use memory::OutOfMemory;
 pub use modes::{
     ATTRIBUTE_WORDS, Attributes, FLAG_MODE_WORDS, FlagMode, OPEN_MODE_WORDS, OpenMode,

@@ -107,3 +107,20 @@ pub enum LastLine {
     Starved,
     Unfit(u32),
 }
+
+/// How a request ended, as a journal has it: done, or cut after so many bytes.
+#[derive(Clone, Copy, Debug, PartialEq, Eq)]
+pub enum How {
+    Done,
+    Cut(u32),
+}
+
+/// An entry of a journal: at which place which ending arrived. `place` is the number of the step before which
+/// it arrived; the request of the device with that number ended in the way that `how` says.
+#[derive(Clone, Copy, Debug, PartialEq, Eq)]
+pub struct Entry {
+    pub place: u32,
+    pub device: u8,
+    pub request: u8,
+    pub how: How,
+}

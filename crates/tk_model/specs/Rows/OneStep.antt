@@ -1,11 +1,9 @@
 -- A budget of one step ends the run after it.
-use Rattle.std.specs.Prelude.{ℕ, pos, negsuc, List, [], ◌∷◌, ◌++◌, None, codes, ◌≡◌, refl}
+use Rattle.std.specs.Prelude.{ℕ, List, [], ◌∷◌, ◌++◌, None, codes, ◌≡◌, refl}
 use Rattle.std.specs.Fmt.{digits}
 use Rattle.tk_types.specs.declared.script.Script.{Script}
-use Rattle.tk_types.specs.declared.script.Body.{Body}
 use Rattle.tk_types.specs.declared.script.BodyKind.TheVariants as kinds
 use Rattle.tk_types.specs.declared.script.Stmt.TheVariants as stmts
-use Rattle.tk_types.specs.declared.script.Arg.TheVariants as args
 use Rattle.tk_types.specs.declared.call_name.CallName.TheVariants as names
 use Rattle.tk_types.specs.declared.run.Mode.TheVariants as modes
 use Rattle.tk_types.specs.declared.run.End.TheVariants as ends

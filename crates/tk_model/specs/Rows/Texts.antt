@@ -12,8 +12,9 @@ use Rattle.tk_types.specs.declared.script.Arg.TheVariants as args
 use Rattle.tk_types.specs.declared.call_name.CallName.TheVariants as names
 use Rattle.tk_types.specs.Names.{name_at_most, is_name_byte}
 use Rattle.tk_types.specs.CallNames.{text_of, form_of}
-use Rattle.tk_model.specs.NumberWords.{fits_i32, number_at, natural_at}
-use Rattle.tk_model.specs.ScriptText.{register_word, operand_word, chosen, barred, bar_joined, list_word, table_of, body_word, arg_word, arg_words, operation_word, condition_words, stmt_words, item_lines, body_kind_word, body_lines, unit_words, printed_lines, gaps, joined, printed, all_differ}
+use Rattle.tk_model.specs.Lists.{chosen, list_text_of}
+use Rattle.tk_model.specs.Decimals.{fits_i32, number_at, natural_at}
+use Rattle.tk_model.specs.ScriptText.{register_word, operand_word, table_of, body_word, arg_word, arg_words, operation_word, condition_words, stmt_words, item_lines, body_kind_word, body_lines, unit_words, printed_lines, gaps, joined, printed, all_differ}
 use Rattle.tk_model.specs.ScriptReading.{split_lines, split_words, body_at, arg_at, args_at, first_call, say_at, stmt_at, outside, inside, line_at, bodies_at, begun, body_names, priority_at, boot_at, are_numbered, script_of, script_from, script_at, is_form, compared, reading_first}
 
 -- two tasks: one makes, starts and wakes the other
@@ -98,30 +99,30 @@ all_kinds_text =
     codes "tk_sus_dev TD_SUSPEND|TD_DISSUS|TD_ENASUS|TD_CHECK|TD_FORCE\nstb r4 9\nlabel last\nend\n"
 
 two_tasks_printed : printed two_tasks ≡ two_tasks_text
-unfolding two_tasks two_tasks_text text_of form_of register_word operand_word chosen barred bar_joined list_word table_of body_word arg_word arg_words operation_word condition_words stmt_words item_lines body_kind_word body_lines unit_words printed_lines gaps joined printed digits
+unfolding two_tasks two_tasks_text text_of form_of register_word operand_word chosen list_text_of table_of body_word arg_word arg_words operation_word condition_words stmt_words item_lines body_kind_word body_lines unit_words printed_lines gaps joined printed digits
 two_tasks_printed = refl
 
 all_kinds_printed : printed all_kinds ≡ all_kinds_text
-unfolding all_kinds all_kinds_text text_of form_of register_word operand_word chosen barred bar_joined list_word table_of body_word arg_word arg_words operation_word condition_words stmt_words item_lines body_kind_word body_lines unit_words printed_lines gaps joined printed digits
+unfolding all_kinds all_kinds_text text_of form_of register_word operand_word chosen list_text_of table_of body_word arg_word arg_words operation_word condition_words stmt_words item_lines body_kind_word body_lines unit_words printed_lines gaps joined printed digits
 all_kinds_printed = refl
 
 two_tasks_read : reading_first two_tasks_text ≡ Some two_tasks
-unfolding two_tasks two_tasks_text name_at_most is_name_byte text_of form_of register_word operand_word chosen barred bar_joined list_word table_of body_word arg_word arg_words stmt_words item_lines body_kind_word body_lines printed_lines gaps joined printed digits all_differ fits_i32 number_at natural_at split_lines split_words body_at arg_at args_at first_call say_at stmt_at outside inside line_at bodies_at begun body_names priority_at boot_at are_numbered script_of script_from script_at is_form compared reading_first
+unfolding two_tasks two_tasks_text name_at_most is_name_byte text_of form_of register_word operand_word chosen list_text_of table_of body_word arg_word arg_words stmt_words item_lines body_kind_word body_lines printed_lines gaps joined printed digits all_differ fits_i32 number_at natural_at split_lines split_words body_at arg_at args_at first_call say_at stmt_at outside inside line_at bodies_at begun body_names priority_at boot_at are_numbered script_of script_from script_at is_form compared reading_first
 two_tasks_read = refl
 
 -- what the first stage doesn't take
 a_call_of_a_later_stage : reading_first (codes "utk 1\nboot main 10\nbody main task\ntk_get_tid\nend\n") ≡ None
-unfolding name_at_most is_name_byte text_of form_of register_word operand_word chosen barred bar_joined list_word table_of body_word arg_word arg_words stmt_words item_lines body_kind_word body_lines printed_lines gaps joined printed digits all_differ fits_i32 number_at natural_at split_lines split_words body_at arg_at args_at first_call say_at stmt_at outside inside line_at bodies_at begun body_names priority_at boot_at are_numbered script_of script_from script_at is_form compared reading_first
+unfolding name_at_most is_name_byte text_of form_of register_word operand_word chosen list_text_of table_of body_word arg_word arg_words stmt_words item_lines body_kind_word body_lines printed_lines gaps joined printed digits all_differ fits_i32 number_at natural_at split_lines split_words body_at arg_at args_at first_call say_at stmt_at outside inside line_at bodies_at begun body_names priority_at boot_at are_numbered script_of script_from script_at is_form compared reading_first
 a_call_of_a_later_stage = refl
 
 two_spaces : reading_first (codes "utk 1\nboot main  10\nbody main task\nend\n") ≡ None
-unfolding name_at_most is_name_byte text_of form_of register_word operand_word chosen barred bar_joined list_word table_of body_word arg_word arg_words stmt_words item_lines body_kind_word body_lines printed_lines gaps joined printed digits all_differ fits_i32 number_at natural_at split_lines split_words body_at arg_at args_at first_call say_at stmt_at outside inside line_at bodies_at begun body_names priority_at boot_at are_numbered script_of script_from script_at is_form compared reading_first
+unfolding name_at_most is_name_byte text_of form_of register_word operand_word chosen list_text_of table_of body_word arg_word arg_words stmt_words item_lines body_kind_word body_lines printed_lines gaps joined printed digits all_differ fits_i32 number_at natural_at split_lines split_words body_at arg_at args_at first_call say_at stmt_at outside inside line_at bodies_at begun body_names priority_at boot_at are_numbered script_of script_from script_at is_form compared reading_first
 two_spaces = refl
 
 a_name_twice : reading_first (codes "utk 1\nboot main 10\nbody main task\nend\nbody main task\nend\n") ≡ None
-unfolding name_at_most is_name_byte text_of form_of register_word operand_word chosen barred bar_joined list_word table_of body_word arg_word arg_words stmt_words item_lines body_kind_word body_lines printed_lines gaps joined printed digits all_differ fits_i32 number_at natural_at split_lines split_words body_at arg_at args_at first_call say_at stmt_at outside inside line_at bodies_at begun body_names priority_at boot_at are_numbered script_of script_from script_at is_form compared reading_first
+unfolding name_at_most is_name_byte text_of form_of register_word operand_word chosen list_text_of table_of body_word arg_word arg_words stmt_words item_lines body_kind_word body_lines printed_lines gaps joined printed digits all_differ fits_i32 number_at natural_at split_lines split_words body_at arg_at args_at first_call say_at stmt_at outside inside line_at bodies_at begun body_names priority_at boot_at are_numbered script_of script_from script_at is_form compared reading_first
 a_name_twice = refl
 
 another_sleep : reading_first (codes "utk 1\nboot main 10\nbody main task\ntk_slp_tsk 5\nend\n") ≡ None
-unfolding name_at_most is_name_byte text_of form_of register_word operand_word chosen barred bar_joined list_word table_of body_word arg_word arg_words stmt_words item_lines body_kind_word body_lines printed_lines gaps joined printed digits all_differ fits_i32 number_at natural_at split_lines split_words body_at arg_at args_at first_call say_at stmt_at outside inside line_at bodies_at begun body_names priority_at boot_at are_numbered script_of script_from script_at is_form compared reading_first
+unfolding name_at_most is_name_byte text_of form_of register_word operand_word chosen list_text_of table_of body_word arg_word arg_words stmt_words item_lines body_kind_word body_lines printed_lines gaps joined printed digits all_differ fits_i32 number_at natural_at split_lines split_words body_at arg_at args_at first_call say_at stmt_at outside inside line_at bodies_at begun body_names priority_at boot_at are_numbered script_of script_from script_at is_form compared reading_first
 another_sleep = refl

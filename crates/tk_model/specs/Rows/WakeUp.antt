@@ -2,7 +2,6 @@
 use Rattle.std.specs.Prelude.{ℕ, pos, negsuc, List, [], ◌∷◌, ◌++◌, None, codes, ◌≡◌, refl}
 use Rattle.std.specs.Fmt.{digits}
 use Rattle.tk_types.specs.declared.script.Script.{Script}
-use Rattle.tk_types.specs.declared.script.Body.{Body}
 use Rattle.tk_types.specs.declared.script.BodyKind.TheVariants as kinds
 use Rattle.tk_types.specs.declared.script.Stmt.TheVariants as stmts
 use Rattle.tk_types.specs.declared.script.Arg.TheVariants as args

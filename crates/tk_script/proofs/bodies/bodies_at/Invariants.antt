@@ -1,7 +1,7 @@
 -- The lines that are left, after what is reached, are read as all lines are from the start.
 use Rattle.std.proofs.Common.{◌≡◌, [], drop, None}
 use Rattle.tk_model.specs.ScriptReading.{bodies_at}
-use Rattle.tk_script.specs.Words.{texts}
+use Rattle.tk_model.specs.Lists.{texts}
 use Rattle.tk_script.proofs.bodies.bodies_at.Given as goal
 
 abbrev pub invariant-lines : goal.invariant-lines

@@ -1,7 +1,7 @@
 -- The names so far, and those of the lines that are left, are the names of all lines.
 use Rattle.std.proofs.Common.{◌≡◌, ◌++◌, drop}
 use Rattle.tk_model.specs.ScriptReading.{body_names}
-use Rattle.tk_script.specs.Words.{texts}
+use Rattle.tk_model.specs.Lists.{texts}
 use Rattle.tk_script.proofs.bodies.body_names.Given as goal
 
 abbrev pub invariant-lines : goal.invariant-lines

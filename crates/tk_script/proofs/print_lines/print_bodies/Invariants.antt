@@ -1,5 +1,5 @@
 -- What is printed, and the lines that are left, are all lines.
-use Rattle.std.proofs.Common.{◌≡◌, ◌++◌, map, drop}
+use Rattle.std.proofs.Common.{◌≡◌, ◌++◌, drop}
 use Rattle.std.specs.List.{flat_map}
 use Rattle.tk_model.specs.ScriptText.{body_lines}
 use Rattle.tk_script.specs.Words.{lines_text}

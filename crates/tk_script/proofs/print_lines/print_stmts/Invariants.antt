@@ -1,6 +1,5 @@
 -- What is printed, and the lines that are left, are all lines.
 use Rattle.std.proofs.Common.{◌≡◌, ◌++◌, map, drop}
-use Rattle.std.specs.List.{flat_map}
 use Rattle.tk_model.specs.ScriptText.{stmt_words}
 use Rattle.tk_script.specs.Words.{lines_text}
 use Rattle.tk_script.proofs.print_lines.print_stmts.Given as goal

@@ -1,5 +1,5 @@
 -- What a split collects is the parts.
-use Rattle.std.proofs.Common.{rules, refl, eqb}
+use Rattle.std.proofs.Common.{rules, eqb}
 use Rattle.std.proofs.lemmas.Iterator.Consumers.{map_from_collect}
 use Rattle.std.proofs.lemmas.Iterator.Splits.{YieldsList-from_slice_split}
 use Rattle.tk_model.specs.ScriptReading.{split_lines}

@@ -21,4 +21,4 @@ returns-else-eq-clause-none c =
     let fits : FitsSigned w32 c.in-Ok-parse.read = search rules in
     let printed : c.format.result.now ≡ signed_decimal c.in-Ok-parse.read = c.format.ensures.text ∙ ap signed_decimal (to_z-of_z fits) in
     other_number c.in-Ok.text.now c.args.word.now c.parse.result c.in-Ok-parse.read c.in-Ok.ensures.cases.0 c.in-Ok-parse.is c.parse.ensures.value.0
-        (λ same. other (c.as_bytes.ensures.value ∙ (printed ∙ same)))
+    (λ same. other (c.as_bytes.ensures.value ∙ (printed ∙ same)))

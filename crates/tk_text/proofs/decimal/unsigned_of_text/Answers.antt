@@ -1,5 +1,5 @@
 -- A word that isn't read, or is read as a number with another text, is no number's text.
-use Rattle.std.proofs.Common.{◌≡◌, ◌∙◌, ap, rules}
+use Rattle.std.proofs.Common.{◌∙◌}
 use Rattle.std.proofs.lemmas.Slice.Eq.{slice_eq-Decides}
 use Rattle.std.proofs.lemmas.Bool.Decides.{Decides-eqb, not_from_Decides}
 use Rattle.tk_text.proofs.Decimals.{decimal_is_utf8, unread_natural, other_natural}
@@ -15,4 +15,4 @@ pub returns-else-eq-clause-none : goal.returns-else-eq-clause-none
 returns-else-eq-clause-none c =
     let other = not_from_Decides c.eq.result (slice_eq-Decides Decides-eqb c.as_bytes.result.now c.args.word.now c.eq.result c.eq.ensures) c.if-eq.false in
     other_natural c.in-Ok.text.now c.args.word.now c.parse.result c.in-Ok-parse.read c.in-Ok.ensures.cases.0 c.in-Ok-parse.is c.parse.ensures.value.0
-        (λ same. other (c.as_bytes.ensures.value ∙ (c.format.ensures.text ∙ same)))
+    (λ same. other (c.as_bytes.ensures.value ∙ (c.format.ensures.text ∙ same)))

@@ -16,6 +16,7 @@ lines-preserved c = record {
 
 pub returns : goal.returns
 returns c =
-    elim c.match-left.branch
-    [ in-Some+then-number-most w ↦ lines_enough _ _ _ _ _ _ _ w.if-number-most.true c.lines.invariant.same
-    | in_default w ↦ lines_over _ _ _ _ _ _ (ap (λ left. parts_left 10 (option_copied left)) w.in_default.is) c.lines.invariant.same ]
+    elim c.match-left.branch [
+      | in-Some+then-number-most w ↦ lines_enough _ _ _ _ _ _ _ w.if-number-most.true c.lines.invariant.same
+      | in_default w ↦ lines_over _ _ _ _ _ _ (ap (λ left. parts_left 10 (option_copied left)) w.in_default.is) c.lines.invariant.same
+    ]

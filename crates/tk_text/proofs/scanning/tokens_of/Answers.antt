@@ -1,6 +1,6 @@
 -- The words and the spans of all lines.
 use Rattle.std.proofs.Common.{◌+◌, ap, ◌∙◌, map, subst, sym, length}
-use Rattle.tk_text.specs.Words.{words_from}
+use Rattle.tk_model.specs.Words.{words_from}
 use Rattle.tk_text.specs.Tokens.{read_token, SpansRise}
 use Rattle.tk_text.proofs.Options.{ok_map}
 use Rattle.tk_text.proofs.Spans.{first_words, first_rise, all_lines}

@@ -1,0 +1,9 @@
+-- The entries of the lines, in order.
+use Rattle.std.proofs.Common.{rules, tests}
+use Rattle.std.proofs.lemmas.Iterator.{items_from_collect, YieldsList-from_slice}
+use Rattle.std.proofs.lemmas.Iterator.Consumers.{YieldsList-from_filter_map}
+use Rattle.tk_model.specs.Journal.{entry_of}
+use Rattle.tk_trace.proofs.journal.entries_of.Goals as goal
+
+pub returns : goal.returns
+returns c = items_from_collect _ c.collect.ensures.ran (YieldsList-from_filter_map _ entry_of (YieldsList-from_slice c.args.lines.now cc) c.filter_map.ensures.closure (λ x r q k. search (rules, tests)))
