@@ -33,8 +33,10 @@ name_new {S} places grown bytes name place new same updates word = at_word (byte
   where
     here : place_in grown name ≡ Some place
     here = subst (λ (w : List ℕ). place_in grown w ≡ Some place) same updates.1
+
     apart : (key : List ℕ) → bytes_eq name word ≡ false → bytes_eq bytes.items key ≡ true → bytes_eq word key ≡ false
     apart key other is = nat_list_eq_equiv.symm word key ∙ (sym (nat_list_eq_equiv.congr bytes.items key word is) ∙ (ap (λ (w : List ℕ). bytes_eq w word) same ∙ other))
+
     at_word : (b : Bool) → bytes_eq name word ≡ b → place_in grown word ≡ first_or (place_in places word) b place
     at_word true is = subst (λ (w : List ℕ). place_in grown w ≡ first_or (place_in places w) true place) ((bytes_eq-Decides name word).0 is) (rw (none_known (place_in places name) new) here)
     at_word false other = updates.3 (λ key. bytes_eq word key.items) (λ x y. nat_list_eq_equiv.congr word x.items y.items) (λ key. apart key.items other) ∙ first_is_kept (place_in places word) place

@@ -141,14 +141,7 @@ fn body_of(
 {
     let items = body.items.as_slice();
     let labels = labels_of(alloc, items)?;
-    let stmts = stmts_from(
-        alloc,
-        bodies,
-        &labels,
-        body.kind,
-        behind(1, numbers),
-        items,
-    )?;
+    let stmts = stmts_from(alloc, bodies, &labels, body.kind, behind(1, numbers), items)?;
     Ok(Body {
         name: body.name,
         kind: body.kind,

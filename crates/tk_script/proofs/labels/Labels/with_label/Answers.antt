@@ -1,5 +1,5 @@
 -- The place of the new label's name, unless it stood there before.
-use Rattle.std.proofs.Common.{sym, subst, List, ℕ}
+use Rattle.std.proofs.Common.{subst, List, ℕ}
 use Rattle.tk_script.specs.LabelPlaces.{TakesName}
 use Rattle.tk_script.proofs.LabelPlaces.{label_held}
 use Rattle.tk_script.proofs.labels.Labels.with_label.Goals as goal
