@@ -1,8 +1,7 @@
 -- Arguments, with the names in them looked up: each has the word that was read, and each that may stand is found again.
-use Rattle.std.proofs.Common.{◌≡◌, ◌∙◌, sym, ap, subst, refl, arith, inl, inr, ℕ, zero, suc, ◌+◌, ◌-◌, eqb, ◌<◌, ◌≤◌, Bool, true, false, cond, List, [], ◌∷◌, ◌++◌, map, length, Option, Some, None, Result, Ok, Err, append_assoc}
-use Rattle.std.specs.Prelude.{◌⊎◌, ℤ, ◌==◌, slice_get, if◌then◌else◌}
+use Rattle.std.proofs.Common.{◌≡◌, ◌∙◌, sym, ap, subst, refl, inl, inr, ℕ, zero, suc, ◌-◌, eqb, ◌<◌, ◌≤◌, Bool, true, false, cond, List, [], ◌∷◌, ◌++◌, map, length, Some, Result, Ok, Err, append_assoc}
+use Rattle.std.specs.Prelude.{◌⊎◌, ◌==◌, slice_get, if◌then◌else◌}
 use Rattle.std.specs.List.{AllByRecursion, list_all}
-use Rattle.std.proofs.lemmas.Bool.Decides.{nat_tests}
 use Rattle.std.proofs.lemmas.List.{append-nil}
 use Rattle.tk_types.specs.declared.call_name.ArgumentKind.{ArgumentKind}
 use Rattle.tk_types.specs.declared.call_name.ArgumentKind.TheVariants as kinds
@@ -15,14 +14,14 @@ use Rattle.tk_types.specs.declared.script.Label.{Label}
 use Rattle.tk_types.specs.declared.script.Operand.{Operand}
 use Rattle.tk_types.specs.declared.script.Operand.TheVariants as operands
 use Rattle.tk_types.specs.declared.why.Why.{Why}
-use Rattle.tk_model.specs.ScriptText.{all_differ, arg_word, arg_words, body_word, dash, label_name, name_or_dash, operand_word, register_word, FitsArg, FitsArgs, FitsOperand, IsBodyNumber, IsName}
+use Rattle.tk_model.specs.ScriptText.{all_differ, arg_word, arg_words, body_word, label_name, name_or_dash, operand_word, register_word, FitsArg, FitsArgs, FitsOperand, IsBodyNumber, IsName}
 use Rattle.tk_raw.specs.RawText.{piece_word, piece_words, FitsPiece, FitsPieces}
 use Rattle.tk_raw.specs.declared.raw.Piece.{Piece}
 use Rattle.tk_raw.specs.declared.raw.Piece.TheVariants as pieces
 use Rattle.tk_raw.specs.declared.raw.RawBody.{RawBody}
 use Rattle.tk_raw.proofs.Results.{ok_is, some_is, both_true}
 use Rattle.tk_script.specs.Resolving.{◌>>=◌, arg_of, args_from, body_arg, body_number, label_of, name_of, named_arg, operand_of, register_of}
-use Rattle.tk_script.proofs.NameLaws.{SameBodies, Found, number_takes, number_again, label_takes, label_again, not_zero, mapped_some, numbered_word}
+use Rattle.tk_script.proofs.NameLaws.{SameBodies, number_takes, number_again, label_takes, not_zero, mapped_some, numbered_word}
 
 -- a step behind another
 pub bind_ok : {A B E : Type 0} (read : Result A E) (next : A → Result B E) (y : B) → (read >>= next) ≡ Ok y → (x : A) × (read ≡ Ok x) × (next x ≡ Ok y)

@@ -1,25 +1,17 @@
 -- Bodies and scripts, with their names looked up: the lines are those that were read, and each script is found again.
-use Rattle.std.specs.Prelude.{codes, decimal, flat_map}
-use Rattle.std.proofs.Common.{◌≡◌, ◌∙◌, sym, ap, subst, refl, arith, ℕ, ◌+◌, ◌<◌, ◌≤◌, Bool, true, false, List, [], ◌∷◌, ◌++◌, map, length, drop, Result, Ok, Err, append_assoc}
-use Rattle.std.specs.List.{AllByRecursion}
-use Rattle.std.proofs.lemmas.List.{append-nil}
+use Rattle.std.proofs.Common.{◌≡◌, ◌∙◌, sym, ap, subst, refl, arith, ℕ, ◌+◌, List, [], length, drop, Ok}
 use Rattle.tk_types.specs.declared.script.Body.{Body}
-use Rattle.tk_types.specs.declared.script.BodyKind.{BodyKind}
-use Rattle.tk_types.specs.declared.script.BodyKind.TheVariants.{Task, Hand, Svc}
 use Rattle.tk_types.specs.declared.script.Label.{Label}
 use Rattle.tk_types.specs.declared.script.Stmt.{Stmt}
-use Rattle.tk_model.specs.ScriptText.{all_differ, body_kind_word, body_lines, item_lines, stmt_words, FitsStmt, IsBody, IsName, PlacesRise}
-use Rattle.tk_raw.specs.RawReading.{Refusal}
-use Rattle.tk_raw.specs.RawText.{label_names, open_body_lines, raw_body_lines, raw_item_words, raw_stmt_words, FitsItem, FitsPieces, IsRawBody}
-use Rattle.tk_raw.specs.Heads.{form_of_head}
+use Rattle.tk_model.specs.ScriptText.{all_differ, body_lines, stmt_words, FitsStmt, IsBody, IsName, PlacesRise}
+use Rattle.tk_raw.specs.RawText.{open_body_lines, raw_body_lines, raw_stmt_words, IsRawBody}
 use Rattle.tk_raw.specs.declared.raw.RawBody.{RawBody}
-use Rattle.tk_raw.specs.declared.raw.RawItem.{RawItem}
 use Rattle.tk_raw.specs.declared.raw.RawStmt.{RawStmt}
-use Rattle.tk_script.specs.Resolving.{◌>>=◌, behind_body, bodies_from, bodies_with, body_of, labels_from, labels_of, stmt_by, stmts_from}
+use Rattle.tk_script.specs.Resolving.{body_of, labels_of, stmts_from}
 use Rattle.tk_script.proofs.NameLaws.{SameBodies}
 use Rattle.tk_script.proofs.ArgumentLaws.{bind_ok, Alike}
-use Rattle.tk_script.proofs.StatementLaws.{stmt_takes, stmt_again, raw_stmt, Labels, AgainStmt}
-use Rattle.tk_script.proofs.Weaving.{sure_is, Woven, woven_all, woven_fits, woven_labels, woven_lines, woven_map, woven_named, woven_names, woven_rise, woven_stmts, Read, ReadItems, items_take, labels_at, Written, Lines, weave}
+use Rattle.tk_script.proofs.StatementLaws.{stmt_takes, stmt_again, raw_stmt, AgainStmt}
+use Rattle.tk_script.proofs.Weaving.{sure_is, Woven, woven_all, woven_fits, woven_labels, woven_lines, woven_named, woven_names, woven_rise, woven_stmts, Read, items_take, labels_at, Written, weave}
 
 -- ---- one body
 

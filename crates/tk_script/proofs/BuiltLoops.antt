@@ -1,5 +1,5 @@
 -- Loops that look for the first line that isn't built.
-use Rattle.std.proofs.Common.{◌≡◌, ◌∙◌, sym, ap, subst, refl, ℕ, ◌+◌, ◌<◌, ◌≤◌, Bool, true, false, List, [], length, drop, get_or, Option, Some, None}
+use Rattle.std.proofs.Common.{◌≡◌, ◌∙◌, ap, subst, ℕ, ◌+◌, ◌<◌, ◌≤◌, true, false, List, length, drop, get_or, Option, Some, None}
 use Rattle.std.proofs.lemmas.List.{drop_all}
 use Rattle.tk_raw.specs.declared.raw.RawBody.{RawBody}
 use Rattle.tk_raw.specs.declared.raw.RawItem.{RawItem}

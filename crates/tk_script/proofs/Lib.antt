@@ -3,6 +3,7 @@ pub mod Items
 pub mod Loops
 pub mod BuiltLoops
 pub mod NameLaws
+pub mod LabelPlaces
 pub mod ArgumentLaws
 pub mod StatementLaws
 pub mod Weaving

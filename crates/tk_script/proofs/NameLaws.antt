@@ -1,6 +1,6 @@
 -- Names, looked up: which body or label a name stands for.
-use Rattle.std.proofs.Common.{◌≡◌, ◌∙◌, sym, ap, subst, refl, arith, rules, inl, inr, ℕ, zero, suc, ◌+◌, ◌-◌, eqb, ◌<◌, ◌≤◌, Bool, true, false, not, cond, ◌&&◌, ◌||◌, List, [], ◌∷◌, map, length, get_or, Option, Some, None, Result, Ok, Err}
-use Rattle.std.specs.Prelude.{◌⊎◌, nat_lt, position, slice_get}
+use Rattle.std.proofs.Common.{◌≡◌, ◌∙◌, sym, ap, subst, refl, arith, ℕ, zero, suc, ◌+◌, ◌-◌, eqb, ◌<◌, ◌≤◌, Bool, true, false, not, ◌&&◌, ◌||◌, List, [], ◌∷◌, map, length, get_or, Option, Some, None, Ok}
+use Rattle.std.specs.Prelude.{nat_lt, position, slice_get}
 use Rattle.std.specs.List.{list_any, position_or_len}
 use Rattle.std.specs.Option.{option_map}
 use Rattle.std.specs.Str.{bytes_eq}
@@ -13,11 +13,10 @@ use Rattle.tk_types.specs.declared.script.Body.{Body}
 use Rattle.tk_types.specs.declared.script.BodyKind.{BodyKind}
 use Rattle.tk_types.specs.declared.script.BodyKind.TheVariants.{Task, Hand, Svc}
 use Rattle.tk_types.specs.declared.script.Label.{Label}
-use Rattle.tk_types.specs.declared.why.Why.{Why}
 use Rattle.tk_types.specs.declared.why.Why.TheVariants as whys
 use Rattle.tk_model.specs.ScriptText.{all_differ, body_word, name_or_dash, label_name, IsBodyNumber}
 use Rattle.tk_raw.specs.declared.raw.RawBody.{RawBody}
-use Rattle.tk_raw.proofs.Results.{passed, both_true, both, ok_is, some_is, false_of_not, false_unless}
+use Rattle.tk_raw.proofs.Results.{passed, both_true, ok_is, some_is, false_of_not}
 use Rattle.tk_script.specs.Resolving.{same_kind, body_place, number_if, number_at, body_number, known, label_number}
 
 -- ---- a name among names

@@ -1,14 +1,13 @@
 -- Lines with one space between their words: what they keep of the lines that they come from.
-use Rattle.std.proofs.Common.{◌≡◌, ◌∙◌, sym, ap, subst, refl, arith, ℕ, zero, suc, ◌+◌, ◌<◌, ◌≤◌, Bool, true, false, not, cond, ◌&&◌, List, [], ◌∷◌, ◌++◌, map, length, Option, Some, None, append_assoc, length-append}
-use Rattle.std.specs.Prelude.{nat_lt, nat_le, ◌==◌, flat_map, if◌then◌else◌}
+use Rattle.std.proofs.Common.{◌≡◌, ◌∙◌, ap, refl, arith, ℕ, suc, ◌+◌, ◌<◌, ◌≤◌, Bool, true, false, not, cond, List, [], ◌∷◌, ◌++◌, length, Some, None, length-append}
+use Rattle.std.specs.Prelude.{nat_lt, nat_le, ◌==◌, if◌then◌else◌}
 use Rattle.std.specs.List.{AllByRecursion, filter, list_all, slice_split, onto_first}
-use Rattle.std.proofs.lemmas.Bool.{leb-true, eqb-true, ltb-true, lt-ltb}
+use Rattle.std.proofs.lemmas.Bool.{leb-true, eqb-true}
 use Rattle.std.proofs.lemmas.Bool.Decides.{nat_tests}
 use Rattle.std.proofs.lemmas.List.{append-nil}
-use Rattle.tk_types.specs.declared.why.Why.{Why}
 use Rattle.tk_types.specs.declared.why.Why.TheVariants.{Byte, Line}
-use Rattle.tk_model.specs.ScriptText.{gaps, joined, line_text}
-use Rattle.tk_model.specs.Words.{is_text_byte, is_word, line_fault, lines_of, parts_of, words_of}
+use Rattle.tk_model.specs.ScriptText.{gaps, joined}
+use Rattle.tk_model.specs.Words.{is_text_byte, is_word, line_fault, parts_of, words_of}
 use Rattle.tk_raw.proofs.Results.{both_true, both, false_of_not}
 
 -- ---- parts between marks

@@ -1,13 +1,12 @@
 -- The printed form of a script that a text spells: it spells the script too, and how long it is.
-use Rattle.std.proofs.Common.{◌≡◌, ◌≢◌, ◌∙◌, sym, ap, subst, refl, arith, ℕ, zero, suc, ◌+◌, ◌<◌, ◌≤◌, Bool, true, false, not, cond, List, [], ◌∷◌, ◌++◌, map, length, Option, Some, None, append_assoc, length-append}
+use Rattle.std.proofs.Common.{◌≡◌, ◌≢◌, ◌∙◌, sym, ap, subst, refl, arith, ℕ, suc, ◌+◌, ◌<◌, ◌≤◌, Bool, true, false, cond, List, [], ◌∷◌, ◌++◌, map, length, append_assoc, length-append}
 use Rattle.std.specs.Prelude.{◌==◌, flat_map, if◌then◌else◌}
 use Rattle.std.specs.List.{AllByRecursion, slice_split, onto_first}
-use Rattle.std.proofs.lemmas.List.{append-nil}
 use Rattle.tk_types.specs.declared.script.Script.{Script}
-use Rattle.tk_model.specs.ScriptText.{joined, line_text, printed, printed_lines, Spells}
-use Rattle.tk_model.specs.TextLines.{is_kept, kept_behind, kept_from, kept_lines, text_lines, whole_lines, IsClean, IsCleanLine}
-use Rattle.tk_model.specs.Words.{is_word, line_fault, lines_of, parts_of, words_of}
-use Rattle.tk_script.proofs.PlainLines.{is_free, total, total_append, split_mark, split_some, split_total, IsPlain, words_plain, plain_shorter}
+use Rattle.tk_model.specs.ScriptText.{joined, line_text, printed, Spells}
+use Rattle.tk_model.specs.TextLines.{is_kept, kept_behind, kept_from, kept_lines, text_lines, whole_lines, IsCleanLine}
+use Rattle.tk_model.specs.Words.{is_word, parts_of, words_of}
+use Rattle.tk_script.proofs.PlainLines.{total, split_mark, split_some, split_total, IsPlain, words_plain, plain_shorter}
 
 -- ---- the lines of a text
 

@@ -1,14 +1,14 @@
 -- What is read of a text is what the text spells.
 use Rattle.std.specs.Prelude.{◌↔◌}
-use Rattle.std.proofs.Common.{◌≡◌, ◌∙◌, sym, ap, subst, refl, ℕ, ◌+◌, ◌≤◌, List, [], ◌∷◌, length, Option, Some, None, Result, Ok, Err, IfOk}
+use Rattle.std.proofs.Common.{◌≡◌, ◌∙◌, sym, ap, refl, ℕ, List, [], ◌∷◌, length, Option, Some, None, Result, Ok, Err, IfOk}
 use Rattle.tk_types.specs.declared.memory.OutOfMemory.{OutOfMemory}
 use Rattle.tk_types.specs.declared.script.Script.{Script}
 use Rattle.tk_types.specs.declared.script.Reading.{Reading}
 use Rattle.tk_types.specs.declared.script.Reading.TheVariants as readings
-use Rattle.tk_model.specs.TextLines.{kept_behind, kept_from, kept_lines, kept_numbers, numbers_behind, numbers_from, text_lines}
-use Rattle.tk_model.specs.ScriptText.{head_words, printed_lines, IsScript, Spells}
+use Rattle.tk_model.specs.TextLines.{kept_behind, kept_from, kept_lines, kept_numbers, numbers_from, text_lines}
+use Rattle.tk_model.specs.ScriptText.{head_words, Spells}
 use Rattle.tk_raw.specs.RawReading.{Refusal, raw_reading}
-use Rattle.tk_raw.specs.RawText.{raw_lines, IsRaw}
+use Rattle.tk_raw.specs.RawText.{raw_lines}
 use Rattle.tk_raw.specs.Spelling.{SpellsRaw}
 use Rattle.tk_raw.specs.declared.raw.RawScript.{RawScript}
 use Rattle.tk_raw.proofs.TextTakes.{as_many_numbers, raw_takes}
@@ -19,7 +19,7 @@ use Rattle.tk_script.specs.Built.{first_unbuilt, reading_built, resolved_built, 
 use Rattle.tk_types.specs.declared.why.Why.TheVariants.{Later}
 use Rattle.tk_script.proofs.ArgumentLaws.{bind_ok}
 use Rattle.tk_script.proofs.Weaving.{sure, sure_is}
-use Rattle.tk_script.proofs.ScriptLaws.{TakenScript, script_takes, Text, ScriptText, script_again}
+use Rattle.tk_script.proofs.ScriptLaws.{script_takes, script_again}
 
 pub reading_takes : (text : List ℕ) (script : Script) → reading text ≡ Ok script → Spells text script
 unfolding reading

@@ -1,23 +1,20 @@
 -- Whole scripts, with their names looked up: the lines are those that were read, and each script is found again.
-use Rattle.std.specs.Prelude.{codes, decimal, flat_map, IfSome}
-use Rattle.std.proofs.Common.{◌≡◌, ◌∙◌, sym, ap, subst, refl, arith, ℕ, ◌+◌, ◌<◌, ◌≤◌, Bool, true, false, List, [], ◌∷◌, ◌++◌, map, length, drop, Result, Ok, Err, append_assoc}
+use Rattle.std.specs.Prelude.{flat_map}
+use Rattle.std.proofs.Common.{◌≡◌, ◌∙◌, sym, ap, subst, refl, ℕ, List, [], ◌∷◌, ◌++◌, length, drop, Ok, append_assoc}
 use Rattle.std.specs.List.{AllByRecursion}
 use Rattle.std.proofs.lemmas.List.{append-nil, length-map}
 use Rattle.tk_types.specs.declared.script.Body.{Body}
-use Rattle.tk_types.specs.declared.script.Boot.{Boot}
-use Rattle.tk_types.specs.declared.script.BodyKind.{BodyKind}
 use Rattle.tk_types.specs.declared.script.BodyKind.TheVariants.{Task}
 use Rattle.tk_types.specs.declared.script.Script.{Script}
-use Rattle.tk_model.specs.ScriptText.{all_differ, body_lines, body_word, boot_words, head_words, printed_lines, IsBetween, IsBody, IsName, IsScript}
-use Rattle.tk_raw.specs.RawReading.{Refusal}
-use Rattle.tk_raw.specs.RawText.{body_names, raw_body_lines, raw_boot_words, raw_lines, IsRaw, IsRawBody}
+use Rattle.tk_model.specs.ScriptText.{all_differ, body_lines, body_word, head_words, printed_lines, IsBetween, IsBody, IsName, IsScript}
+use Rattle.tk_raw.specs.RawText.{raw_body_lines, raw_lines, IsRaw, IsRawBody}
 use Rattle.tk_raw.specs.declared.raw.RawBody.{RawBody}
 use Rattle.tk_raw.specs.declared.raw.RawScript.{RawScript}
 use Rattle.tk_script.specs.Resolving.{◌>>=◌, at_line, behind_body, bodies_from, bodies_with, body_number, body_of, boot_numbers, boot_of, first_number, resolved}
 use Rattle.tk_script.proofs.NameLaws.{SameBodies, Found, number_takes, number_again}
 use Rattle.tk_script.proofs.ArgumentLaws.{bind_ok, word_named, Alike}
 use Rattle.tk_script.proofs.Weaving.{sure_is, line_ok}
-use Rattle.tk_script.proofs.BodyLaws.{FoundBody, body_found, TakenBody, body_takes, WrittenBody, BodyText, body_text, body_again, AgainBody, body_is}
+use Rattle.tk_script.proofs.BodyLaws.{FoundBody, body_found, TakenBody, body_takes, WrittenBody, body_text, body_again, AgainBody, body_is}
 
 -- body by body
 unfoldable pub Each : (RawBody → Body → Type 0) → List RawBody → List Body → Type 0

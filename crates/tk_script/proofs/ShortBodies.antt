@@ -1,19 +1,15 @@
 -- Each body of a text has few lines.
 use Rattle.std.specs.Prelude.{codes, flat_map}
-use Rattle.std.proofs.Common.{◌≡◌, ◌∙◌, sym, ap, subst, refl, arith, ℕ, zero, suc, ◌+◌, ◌^◌, ◌<◌, ◌≤◌, Bool, true, false, cond, List, [], ◌∷◌, ◌++◌, map, length, get_or, Result, Ok, IfOk, length-append}
-use Rattle.std.specs.List.{AllByRecursion}
+use Rattle.std.proofs.Common.{◌≡◌, ap, arith, ℕ, suc, ◌^◌, ◌<◌, ◌≤◌, Bool, true, false, cond, List, [], ◌∷◌, ◌++◌, map, length, length-append}
 use Rattle.std.proofs.lemmas.List.{length-map}
-use Rattle.tk_model.specs.ScriptText.{body_kind_word, device_words, head_words, irq_words, pace_lines}
+use Rattle.tk_model.specs.ScriptText.{body_kind_word, device_words, irq_words, pace_lines}
 use Rattle.tk_model.specs.TextLines.{is_kept, kept_behind, kept_from, kept_lines, text_lines}
 use Rattle.tk_model.specs.Words.{words_of}
-use Rattle.tk_types.specs.declared.memory.OutOfMemory.{OutOfMemory}
 use Rattle.tk_raw.specs.RawText.{open_body_lines, raw_body_lines, raw_boot_words, raw_item_words, raw_lines}
 use Rattle.tk_raw.specs.Spelling.{SpellsRaw}
 use Rattle.tk_raw.specs.declared.raw.RawBody.{RawBody}
 use Rattle.tk_raw.specs.declared.raw.RawScript.{RawScript}
-use Rattle.tk_raw.specs.declared.read.RawReading.{RawReading}
-use Rattle.tk_raw.specs.declared.read.RawReading.TheVariants as readings
-use Rattle.tk_script.specs.Resolving.{AreShort, IsShort}
+use Rattle.tk_script.specs.Resolving.{AreShort}
 use Rattle.tk_script.proofs.PlainLines.{total}
 use Rattle.tk_script.proofs.PlainTexts.{text_total}
 

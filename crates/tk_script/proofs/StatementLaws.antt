@@ -1,10 +1,9 @@
 -- Statements, with the names in them looked up: each has the words that were read, and each that may stand is found again.
 use Rattle.std.specs.Prelude.{codes, slice_get}
-use Rattle.std.proofs.Common.{◌≡◌, ◌∙◌, sym, ap, subst, refl, arith, ℕ, zero, suc, ◌<◌, ◌≢◌, get_or, Bool, true, false, cond, List, [], ◌∷◌, ◌++◌, map, length, Option, Some, None, Result, Ok, Err}
+use Rattle.std.proofs.Common.{◌≡◌, sym, subst, refl, arith, ℕ, zero, suc, ◌<◌, ◌≢◌, get_or, true, false, List, [], ◌∷◌, map, length, Option, Some, Ok}
 use Rattle.std.specs.List.{list_all, AllByRecursion}
 use Rattle.std.proofs.lemmas.Option.{slice_get-get_or}
 use Rattle.tk_types.specs.CallNames.{form_of, text_of}
-use Rattle.tk_types.specs.declared.call_name.ArgumentKind.{ArgumentKind}
 use Rattle.tk_types.specs.declared.call_name.ArgumentKind.TheVariants as kinds
 use Rattle.tk_types.specs.declared.call_name.CallName.{CallName}
 use Rattle.tk_types.specs.declared.call_name.CallName.TheVariants as calls
@@ -20,7 +19,6 @@ use Rattle.tk_types.specs.declared.script.Operation.{Operation}
 use Rattle.tk_types.specs.declared.script.Operation.TheVariants as operations
 use Rattle.tk_types.specs.declared.script.Stmt.{Stmt}
 use Rattle.tk_types.specs.declared.script.Stmt.TheVariants as stmts
-use Rattle.tk_types.specs.declared.why.Why.{Why}
 use Rattle.tk_types.specs.declared.why.Why.TheVariants as whys
 use Rattle.tk_model.specs.ScriptText.{all_differ, condition_words, label_name, operand_word, operation_word, register_word, stmt_words, FitsArgs, FitsCondition, FitsOperand, FitsStmt, IsName, MayCall}
 use Rattle.tk_raw.specs.Heads.{head_text, form_of_head}
@@ -32,11 +30,11 @@ use Rattle.tk_raw.specs.declared.raw.Piece.TheVariants as pieces
 use Rattle.tk_raw.specs.declared.raw.RawBody.{RawBody}
 use Rattle.tk_raw.specs.declared.raw.RawStmt.{RawStmt}
 use Rattle.tk_raw.proofs.Results.{ok_is, some_is, passed, not_failed}
-use Rattle.tk_script.specs.Resolving.{◌>>=◌, args_from, branch_of, call_from, call_of, compute_of, condition_of, jump_of, label_of, load_of, may_call, name_of, operand_of, plain_of, register_of, return_from, return_of, same_kind, say_of, show_of, stmt_by, store_of}
+use Rattle.tk_script.specs.Resolving.{args_from, branch_of, call_from, call_of, compute_of, condition_of, jump_of, label_of, load_of, may_call, name_of, operand_of, plain_of, register_of, return_from, return_of, same_kind, say_of, show_of, stmt_by, store_of}
 use Rattle.tk_script.specs.declared.resolving.Comparison.{Comparison}
 use Rattle.tk_script.specs.declared.resolving.Comparison.TheVariants as comparisons
-use Rattle.tk_script.proofs.NameLaws.{SameBodies, kinds_same, same_kind_again, label_again, mapped_some}
-use Rattle.tk_script.proofs.ArgumentLaws.{bind_ok, register_takes, operand_takes, text_takes, mark_takes, is_call_kind, args_takes, operand_piece, arg_piece, arg_pieces, operand_again, operand_same, operand_fits, args_same, args_again, args_fit, Alike}
+use Rattle.tk_script.proofs.NameLaws.{SameBodies, kinds_same, same_kind_again, label_again}
+use Rattle.tk_script.proofs.ArgumentLaws.{bind_ok, register_takes, operand_takes, text_takes, mark_takes, is_call_kind, args_takes, operand_piece, arg_pieces, operand_again, operand_same, operand_fits, args_same, args_again, args_fit, Alike}
 
 -- ---- what is read
 

@@ -1,4 +1,5 @@
 pub mod Gives
+pub mod LabelPlaces
 pub mod Words
 pub mod Resolving
 pub mod Built

@@ -33,7 +33,6 @@ use Rattle.tk_raw.specs.declared.raw.RawBody.{RawBody}
 use Rattle.tk_raw.specs.declared.raw.RawItem.{RawItem}
 use Rattle.tk_raw.specs.declared.raw.RawItem.TheVariants as items
 use Rattle.tk_raw.specs.declared.raw.RawScript.{RawScript}
-use Rattle.tk_raw.specs.declared.raw.RawStmt.{RawStmt}
 use Rattle.tk_script.specs.declared.resolving.Comparison.{Comparison}
 use Rattle.tk_script.specs.declared.resolving.Comparison.TheVariants as comparisons
 

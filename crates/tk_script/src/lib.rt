@@ -3,6 +3,7 @@
 
 mod built;
 mod errors;
+mod labels;
 pub mod laws;
 mod lines;
 mod names;

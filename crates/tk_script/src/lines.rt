@@ -7,6 +7,7 @@ ghost use Rattle.tk_script.specs.Gives.{Gives, GivesLine};
 ghost use Rattle.tk_script.specs.Resolving.{AreShort, IsShort, at_line, behind_body, bodies_from, bodies_with, body_number, body_of, boot_numbers, boot_of, first_number, labels_of, labels_with, pace_count, place_behind, resolved, stmt_by, stmts_from, stmts_with};
 
 use crate::errors::{LineError, StepError};
+use crate::labels::Labels;
 use crate::names::body_number;
 use crate::numbers::{behind, behind_body, boot_numbers, first_number};
 use crate::resolving::stmt_by;
@@ -16,17 +17,16 @@ use tk_types::{Body, BodyKind, Boot, Label, OutOfMemory, Script, Sequence, Stmt}
 
 /// The labels with that of a line, before which so many statements stand.
 fn labels_with(
-    mut labels: Sequence<Label>,
+    alloc: Global,
+    labels: Labels,
     place: u32,
     item: &RawItem,
-) -> Result<Sequence<Label>, OutOfMemory>
+) -> Result<Labels, OutOfMemory>
+    requires { length labels < 2 ^ 32 }
     ensures { IfOk result (λ grown. grown ≡ labels_with place item.now labels) }
 {
     match item {
-        RawItem::Label(name) => {
-            labels.push(Label { name: *name, place })?;
-            Ok(labels)
-        }
+        RawItem::Label(name) => labels.with_label(alloc, Label { name: *name, place }),
         RawItem::Stmt(_) => Ok(labels),
     }
 }
@@ -43,15 +43,15 @@ fn place_behind(item: &RawItem, place: u32) -> u32
 }
 
 /// The labels of the lines of a body, each with the number of statements before it.
-fn labels_of(alloc: Global, items: &[RawItem]) -> Result<Sequence<Label>, OutOfMemory>
+fn labels_of(alloc: Global, items: &[RawItem]) -> Result<Labels, OutOfMemory>
     requires { length items.now < 2 ^ 32 }
     ensures value { IfOk result (λ labels. labels ≡ labels_of items.now) }
     ensures within { IfOk result (λ labels. length labels ≤ length items.now) }
 {
-    let mut labels = Sequence::new(alloc);
+    let mut labels = Labels::new(alloc);
     let mut place: u32 = 0;
     'lines: for item in items {
-        labels = labels_with(labels, place, item)?;
+        labels = labels_with(alloc, labels, place, item)?;
         place = place_behind(item, place);
     }
     Ok(labels)
@@ -61,12 +61,11 @@ fn labels_of(alloc: Global, items: &[RawItem]) -> Result<Sequence<Label>, OutOfM
 fn stmt_in(
     alloc: Global,
     bodies: &[RawBody],
-    labels: &[Label],
+    labels: &Labels,
     kind: BodyKind,
     number: u32,
     stmt: &RawStmt,
 ) -> Result<Stmt, LineError>
-    requires { length labels.now < 2 ^ 32 }
     ensures { GivesLine result (at_line number (stmt_by bodies.now labels.now kind stmt.now.head stmt.now.pieces)) }
 {
     match stmt_by(
@@ -88,13 +87,12 @@ fn stmt_in(
 fn stmts_with(
     alloc: Global,
     bodies: &[RawBody],
-    labels: &[Label],
+    labels: &Labels,
     kind: BodyKind,
     number: u32,
     item: &RawItem,
     mut stmts: Sequence<Stmt>,
 ) -> Result<Sequence<Stmt>, LineError>
-    requires { length labels.now < 2 ^ 32 }
     ensures { GivesLine result (stmts_with bodies.now labels.now kind number item.now stmts) }
 {
     match item {
@@ -111,12 +109,11 @@ fn stmts_with(
 fn stmts_from(
     alloc: Global,
     bodies: &[RawBody],
-    labels: &[Label],
+    labels: &Labels,
     kind: BodyKind,
     numbers: &[u32],
     items: &[RawItem],
 ) -> Result<Sequence<Stmt>, LineError>
-    requires { length labels.now < 2 ^ 32 }
     ensures { GivesLine result (stmts_from bodies.now labels.now kind numbers.now items.now []) }
 {
     let mut stmts = Sequence::new(alloc);
@@ -144,18 +141,11 @@ fn body_of(
 {
     let items = body.items.as_slice();
     let labels = labels_of(alloc, items)?;
-    let stmts = stmts_from(
-        alloc,
-        bodies,
-        labels.as_slice(),
-        body.kind,
-        behind(1, numbers),
-        items,
-    )?;
+    let stmts = stmts_from(alloc, bodies, &labels, body.kind, behind(1, numbers), items)?;
     Ok(Body {
         name: body.name,
         kind: body.kind,
-        labels,
+        labels: labels.into_sequence(),
         stmts,
     })
 }

@@ -1,12 +1,10 @@
-//! Names of bodies and labels, looked up.
+//! Names of bodies, looked up.
 
-ghost use Rattle.std.specs.Prelude.{◌≡◌, ◌<◌, ◌≤◌, ◌^◌, length, position, IfSome, IfOk};
-ghost use Rattle.std.specs.Str.{bytes_eq};
-ghost use Rattle.tk_types.specs.declared.script.Label.{Label};
-ghost use Rattle.tk_script.specs.Resolving.{body_number, body_place, known, label_number, number_at, number_if, same_kind};
+ghost use Rattle.std.specs.Prelude.{◌≡◌};
+ghost use Rattle.tk_script.specs.Resolving.{body_number, body_place, known, number_at, number_if, same_kind};
 
 use tk_raw::RawBody;
-use tk_types::{BodyKind, Label, Why};
+use tk_types::{BodyKind, Why};
 
 /// Whether two kinds are the same.
 pub(crate) fn same_kind(kind: BodyKind, other: BodyKind) -> bool
@@ -53,26 +51,4 @@ pub(crate) fn body_number(bodies: &[RawBody], wanted: BodyKind, name: &[u8]) -> 
     ensures { result ≡ body_number bodies.now wanted name.now }
 {
     number_at(bodies, wanted, body_place(bodies, name))
-}
-
-/// The place of the label with that name.
-fn label_place(labels: &[Label], name: &[u8]) -> Option<usize>
-    ensures place { result ≡ position (λ (label : Label). bytes_eq label.name name.now) labels.now }
-    ensures within { IfSome result (λ place. place < length labels.now) }
-{
-    labels
-        .iter()
-        .position(|label| label.name.as_bytes() == name)
-}
-
-/// The place of the label with that name in the list of labels.
-#[tactic(auto, unfolding(crate::specs::Resolving::label_number))]
-pub(crate) fn label_number(labels: &[Label], name: &[u8]) -> Result<u32, Why>
-    requires { length labels.now < 2 ^ 32 }
-    ensures { result ≡ label_number labels.now name.now }
-{
-    match label_place(labels, name) {
-        None => Err(Why::Unknown),
-        Some(place) => Ok(place as u32),
-    }
 }

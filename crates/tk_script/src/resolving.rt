@@ -5,7 +5,8 @@ ghost use Rattle.tk_script.specs.Gives.{Gives};
 ghost use Rattle.tk_script.specs.Resolving.{arg_of, args_from, body_arg, branch_of, call_from, call_of, compute_of, condition_of, jump_of, label_of, load_of, may_call, name_of, named_arg, operand_of, plain_of, register_of, return_from, return_of, say_of, show_of, stmt_by, store_of};
 
 use crate::errors::StepError;
-use crate::names::{body_number, label_number, same_kind};
+use crate::labels::Labels;
+use crate::names::{body_number, same_kind};
 use std::alloc::Global;
 use tk_raw::{Head, Piece, RawBody};
 use tk_types::{
@@ -57,12 +58,11 @@ fn name_of(piece: Piece) -> Result<Name, Why>
 
 /// The place of the label that a piece names.
 #[tactic(auto, unfolding(crate::specs::Resolving::label_of))]
-fn label_of(labels: &[Label], piece: Piece) -> Result<u32, Why>
-    requires { length labels.now < 2 ^ 32 }
+fn label_of(labels: &Labels, piece: Piece) -> Result<u32, Why>
     ensures { result ≡ label_of labels.now piece }
 {
     match piece {
-        Piece::Name(name) => label_number(labels, name.as_bytes()),
+        Piece::Name(name) => labels.number(name.as_bytes()),
         _ => Err(Why::Unknown),
     }
 }
@@ -192,8 +192,7 @@ fn store_of(pieces: &[Piece]) -> Result<Stmt, Why>
 
 /// A jump that is always taken.
 #[tactic(auto, unfolding(crate::specs::Resolving::jump_of))]
-fn jump_of(labels: &[Label], pieces: &[Piece]) -> Result<Stmt, Why>
-    requires { length labels.now < 2 ^ 32 }
+fn jump_of(labels: &Labels, pieces: &[Piece]) -> Result<Stmt, Why>
     ensures { result ≡ jump_of labels.now pieces.now }
 {
     match pieces {
@@ -221,8 +220,7 @@ fn condition_of(comparison: Comparison, register: u8, value: Operand) -> Conditi
 
 /// A jump that compares.
 #[tactic(auto, unfolding(crate::specs::Resolving::branch_of))]
-fn branch_of(labels: &[Label], comparison: Comparison, pieces: &[Piece]) -> Result<Stmt, Why>
-    requires { length labels.now < 2 ^ 32 }
+fn branch_of(labels: &Labels, comparison: Comparison, pieces: &[Piece]) -> Result<Stmt, Why>
     ensures { result ≡ branch_of labels.now comparison pieces.now }
 {
     match pieces {
@@ -362,12 +360,11 @@ fn without_memory(stmt: Result<Stmt, Why>) -> Result<Stmt, StepError>
 pub(crate) fn stmt_by(
     alloc: Global,
     bodies: &[RawBody],
-    labels: &[Label],
+    labels: &Labels,
     kind: BodyKind,
     head: Head,
     pieces: &[Piece],
 ) -> Result<Stmt, StepError>
-    requires { length labels.now < 2 ^ 32 }
     ensures { Gives result (stmt_by bodies.now labels.now kind head pieces.now) }
 {
     match head {

@@ -1,5 +1,4 @@
 -- The bodies up to this one are built, and those that are left decide.
-use Rattle.std.proofs.Common.{sym}
 use Rattle.tk_script.proofs.BuiltLoops.{bodies_go_on, bodies_stop, bodies_end}
 use Rattle.tk_script.proofs.built.unbuilt_bodies.Goals as goal
 

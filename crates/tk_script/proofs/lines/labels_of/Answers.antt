@@ -1,5 +1,4 @@
 -- What is there already, and what is left, give all labels.
-use Rattle.std.proofs.Common.{◌≤◌, length, arith}
 use Rattle.tk_script.proofs.Loops.{labels_go_on, labels_end, labels_grow, places_grow}
 use Rattle.tk_script.proofs.lines.labels_of.Goals as goal
 
