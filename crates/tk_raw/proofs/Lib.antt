@@ -12,3 +12,4 @@ pub mod StepsAgain
 pub mod TextTakes
 pub mod TextAgain
 pub mod Readings
+mod OpenBodies

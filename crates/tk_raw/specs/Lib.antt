@@ -7,4 +7,5 @@ pub mod Gives
 pub mod TextLoops
 pub mod Lines
 pub mod RawReading
+pub mod OpenBodies
 pub mod Rows

@@ -3,15 +3,14 @@
 ghost use Rattle.std.specs.Prelude.{◌≡◌};
 ghost use Rattle.std.specs.List.{list_any};
 ghost use Rattle.tk_model.specs.Lists.{texts};
-ghost use Rattle.tk_raw.specs.Gives.{Gives};
-ghost use Rattle.tk_raw.specs.RawReading.{body_at, body_from, body_taken, is_label, kind_named, label_at, label_taken, new_body_name, new_label};
+ghost use Rattle.tk_raw.specs.RawReading.{body_at, body_from, body_taken, kind_named, label_at, new_body_name, new_label};
 
-use crate::errors::ReadError;
 use crate::header::new_name;
+use crate::open_body::OpenBody;
 use crate::pieces::name_at;
-use crate::raw::{RawBody, RawItem};
+use crate::raw::RawBody;
 use std::alloc::Global;
-use tk_types::{BodyKind, Name, Sequence, Why};
+use tk_types::{BodyKind, Name, Why};
 
 /// Whether a body has that name.
 #[tactic(auto, unfolding(crate::specs::RawReading::body_taken))]
@@ -48,21 +47,17 @@ fn new_body_name(bodies: &[RawBody], word: &[u8]) -> Result<Name, Why>
 }
 
 #[tactic(auto, unfolding(crate::specs::RawReading::body_from))]
-fn body_from(alloc: Global, bodies: &[RawBody], name: &[u8], kind: &[u8]) -> Result<RawBody, Why>
+fn body_from(alloc: Global, bodies: &[RawBody], name: &[u8], kind: &[u8]) -> Result<OpenBody, Why>
     ensures { result ≡ body_from bodies.now name.now kind.now }
 {
     let name = new_body_name(bodies, name)?;
     let kind = kind_named(kind)?;
-    Ok(RawBody {
-        name,
-        kind,
-        items: Sequence::new(alloc),
-    })
+    Ok(OpenBody::new(alloc, name, kind))
 }
 
 /// A body without lines, from the words behind the first of its first line.
 #[tactic(auto, unfolding(crate::specs::RawReading::body_at))]
-pub(crate) fn body_at(alloc: Global, bodies: &[RawBody], words: &[&[u8]]) -> Result<RawBody, Why>
+pub(crate) fn body_at(alloc: Global, bodies: &[RawBody], words: &[&[u8]]) -> Result<OpenBody, Why>
     ensures { result ≡ body_at bodies.now (texts words.now) }
 {
     match words {
@@ -71,41 +66,22 @@ pub(crate) fn body_at(alloc: Global, bodies: &[RawBody], words: &[&[u8]]) -> Res
     }
 }
 
-/// Whether a line of a body is the label with that name.
-#[tactic(auto, unfolding(crate::specs::RawReading::is_label))]
-fn is_label(word: &[u8], item: &RawItem) -> bool
-    ensures { result ≡ is_label word.now item.now }
-{
-    match item {
-        RawItem::Label(name) => name.as_bytes() == word,
-        RawItem::Stmt(_) => false,
-    }
-}
-
-/// Whether a label of a body has that name.
-#[tactic(auto, unfolding(crate::specs::RawReading::label_taken))]
-fn label_taken(items: &[RawItem], word: &[u8]) -> bool
-    ensures { result ≡ label_taken items.now word.now }
-{
-    items.iter().any(|item| is_label(word, item))
-}
-
 /// The name of a new label.
 #[tactic(auto, unfolding(crate::specs::RawReading::new_label))]
-fn new_label(items: &[RawItem], word: &[u8]) -> Result<Name, Why>
-    ensures { result ≡ new_label items.now word.now }
+fn new_label(body: &OpenBody, word: &[u8]) -> Result<Name, Why>
+    ensures { result ≡ new_label body.now.items word.now }
 {
     let name = name_at(word)?;
-    new_name(label_taken(items, word), name)
+    new_name(body.label_taken(word), name)
 }
 
 /// The label of a line, from the words behind the first.
 #[tactic(auto, unfolding(crate::specs::RawReading::label_at))]
-pub(crate) fn label_at(items: &[RawItem], words: &[&[u8]]) -> Result<Name, Why>
-    ensures { result ≡ label_at items.now (texts words.now) }
+pub(crate) fn label_at(body: &OpenBody, words: &[&[u8]]) -> Result<Name, Why>
+    ensures { result ≡ label_at body.now.items (texts words.now) }
 {
     match words {
-        [word] => new_label(items, word),
+        [word] => new_label(body, word),
         _ => Err(Why::Count),
     }
 }

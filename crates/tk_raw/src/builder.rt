@@ -1,5 +1,6 @@
 //! What was read of a script so far.
 
+use crate::open_body::OpenBody;
 use crate::raw::{RawBody, RawBoot};
 use tk_types::{Device, Interrupt, Sequence};
 
@@ -13,7 +14,7 @@ pub(crate) struct Builder {
     /// The bodies that are at their end.
     pub(crate) bodies: Sequence<RawBody>,
     /// The body that isn't at its end yet.
-    pub(crate) current: Option<RawBody>,
+    pub(crate) current: Option<OpenBody>,
 }
 
 /// What was read so far, and the number of each line that counts.

@@ -7,6 +7,7 @@ mod errors;
 mod head;
 mod header;
 pub mod laws;
+mod open_body;
 mod pieces;
 mod raw;
 mod read;

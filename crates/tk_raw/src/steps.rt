@@ -9,8 +9,9 @@ use crate::bodies::{body_at, label_at};
 use crate::builder::Builder;
 use crate::errors::ReadError;
 use crate::header::{boot_at, device_at, irq_at, pace_at};
+use crate::open_body::OpenBody;
 use crate::pieces::raw_stmt_at;
-use crate::raw::{RawBody, RawItem};
+use crate::raw::RawBody;
 use std::alloc::Global;
 use tk_types::Why;
 
@@ -175,14 +176,15 @@ fn end_line(mut builder: Builder, body: RawBody, words: &[&[u8]]) -> Result<Buil
 /// A `label` line.
 #[tactic(auto, unfolding(crate::specs::RawReading::label_line))]
 fn label_line(
+    alloc: Global,
     mut builder: Builder,
-    mut body: RawBody,
+    body: OpenBody,
     words: &[&[u8]],
 ) -> Result<Builder, ReadError>
     ensures { Gives (λ builder. builder) result (label_line builder body (texts words.now)) }
 {
-    let name = label_at(body.items.as_slice(), words)?;
-    body.items.push(RawItem::Label(name))?;
+    let name = label_at(&body, words)?;
+    let body = body.with_label(alloc, name)?;
     builder.current = Some(body);
     Ok(builder)
 }
@@ -192,14 +194,14 @@ fn label_line(
 fn stmt_line(
     alloc: Global,
     mut builder: Builder,
-    mut body: RawBody,
+    body: OpenBody,
     first: &[u8],
     words: &[&[u8]],
 ) -> Result<Builder, ReadError>
     ensures { Gives (λ builder. builder) result (stmt_line builder body first.now (texts words.now)) }
 {
     let stmt = raw_stmt_at(alloc, first, words)?;
-    body.items.push(RawItem::Stmt(stmt))?;
+    let body = body.with_stmt(stmt)?;
     builder.current = Some(body);
     Ok(builder)
 }
@@ -209,17 +211,17 @@ fn stmt_line(
 fn inside(
     alloc: Global,
     builder: Builder,
-    body: RawBody,
+    body: OpenBody,
     first: &[u8],
     words: &[&[u8]],
 ) -> Result<Builder, ReadError>
     ensures { Gives (λ builder. builder) result (inside builder body first.now (texts words.now)) }
 {
     if first == b"end".as_slice() {
-        return end_line(builder, body, words);
+        return end_line(builder, body.into_body(), words);
     }
     if first == b"label".as_slice() {
-        return label_line(builder, body, words);
+        return label_line(alloc, builder, body, words);
     }
     stmt_line(alloc, builder, body, first, words)
 }

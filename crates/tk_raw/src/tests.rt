@@ -80,6 +80,29 @@ fn texts_are_refused_at_their_first_wrong_line(rt: HostRuntime) -> Result<(), Fa
     Ok(())
 }
 
+/// The first lines of a script whose body begins with the label `again`, and a thousand labels behind it.
+fn many_labels(alloc: Global) -> Result<String, Fail> {
+    let mut text = String::from_str(alloc, "utk 1\nboot main 10\nbody main task\nlabel again\n")?;
+    for number in 0..1000u32 {
+        write!(text, "label part{number}\n")?;
+    }
+    Ok(text)
+}
+
+#[test]
+fn a_label_is_refused_far_behind_its_like(rt: HostRuntime) -> Result<(), Fail> {
+    let mut text = many_labels(rt.alloc())?;
+    text.push_str("label other\nend\n")?;
+    assert_eq!(rt; refusal(rt.alloc(), text.as_bytes())?, None);
+    let mut text = many_labels(rt.alloc())?;
+    text.push_str("label again\nend\n")?;
+    assert_eq!(rt;
+        refusal(rt.alloc(), text.as_bytes())?,
+        Some((1005, Why::Name))
+    );
+    Ok(())
+}
+
 #[test]
 fn first_words_have_one_spelling(rt: HostRuntime) {
     assert_eq!(rt; Head::of_text(b"jeq"), Some(Head::Jeq));
