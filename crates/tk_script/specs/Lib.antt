@@ -4,3 +4,4 @@ pub mod Words
 pub mod Resolving
 pub mod Built
 pub mod Reading
+pub mod Rows
