@@ -1,5 +1,5 @@
-//! The simulator over the standard streams: it reads a script from the standard input, runs it, and writes its
-//! trace to the standard output. The exit status says how the run ended.
+//! The simulator over the standard streams: it reads a script from the standard input and writes to the standard
+//! output, by its words the trace of the run or the printed form. The exit status says how the call ended.
 #![tactic(auto)]
 
 use std::alloc::Global;
