@@ -2,11 +2,11 @@
 use Rattle.std.proofs.Common.{◌≡◌, ℕ, ◌<◌, ◌≤◌, Bool, true, false, Option, Some, None, refl, sym, ◌∙◌, subst, ap, arith}
 use Rattle.tk_types.specs.declared.script.Script.{Script}
 use Rattle.tk_types.specs.declared.run.End.{End}
-use Rattle.tk_model.specs.Base.{chosen}
-use Rattle.tk_model.specs.State.{State, state_start}
-use Rattle.tk_model.specs.Statements.{IsRunnable}
-use Rattle.tk_model.specs.Step.{dispatched, turned, is_current, step}
-use Rattle.tk_model.proofs.Steps.{IsTurned, dispatched_turned, step_left, step_turned}
+use Rattle.kernel_model.specs.Base.{chosen}
+use Rattle.kernel_model.specs.State.{State, state_start}
+use Rattle.kernel_model.specs.Statements.{IsRunnable}
+use Rattle.kernel_model.specs.Step.{dispatched, turned, is_current, step}
+use Rattle.kernel_model.proofs.Steps.{IsTurned, dispatched_turned, step_left, step_turned}
 use Rattle.tk_kernel.specs.Budgets.{IsGoing}
 
 steps_turned : (b : Bool) (n : ℕ) (st : State) → (turned b n st).state.steps ≡ st.steps

@@ -2,9 +2,9 @@
 use Rattle.std.specs.Prelude.{ℕ, ◌≡◌, ◌<◌, ◌≤◌, Bool, false, Option, Some, None}
 use Rattle.tk_types.specs.declared.script.Script.{Script}
 use Rattle.tk_types.specs.declared.run.End.{End}
-use Rattle.tk_model.specs.Base.{chosen}
-use Rattle.tk_model.specs.State.{State}
-use Rattle.tk_model.specs.Statements.{IsRunnable}
+use Rattle.kernel_model.specs.Base.{chosen}
+use Rattle.kernel_model.specs.State.{State}
+use Rattle.kernel_model.specs.Statements.{IsRunnable}
 
 -- while the run goes on, a step of the budget is left and the chosen task is the current one
 pub record IsGoing (script : Script) (budget : ℕ) (state : State) (over : Option End) (failed : Bool) : Type 0 where

@@ -1,7 +1,7 @@
 //! What the kernel keeps of tasks, and the moves on it.
 
 ghost use Rattle.std.specs.Prelude.{◌≡◌, OnOk, IfOk, None, [], length, drop, replicate, true};
-ghost use Rattle.tk_model.specs.Base.{
+ghost use Rattle.kernel_model.specs.Base.{
   Base as BaseView,
   base_start,
   chosen,
@@ -22,8 +22,8 @@ ghost use Rattle.tk_model.specs.Base.{
   waits_for,
   wakeups_of,
 };
-ghost use Rattle.tk_model.specs.Orders.{free_from};
-ghost use Rattle.tk_model.specs.Choice.{best_of, better};
+ghost use Rattle.kernel_model.specs.Orders.{free_from};
+ghost use Rattle.kernel_model.specs.Choice.{best_of, better};
 
 use crate::order::move_to_back;
 use std::alloc::{AllocError, Global};
@@ -42,7 +42,7 @@ pub struct Base {
 }
 
 impl Model for Base {
-    ghost use Rattle.tk_model.specs.Base.{Base as BaseView};
+    ghost use Rattle.kernel_model.specs.Base.{Base as BaseView};
     ghost use Rattle.std.specs.Prelude.{◌≡◌, length};
 
     ghost Value = { BaseView };
@@ -185,7 +185,7 @@ impl Base {
 
 impl Base {
     /// The least free ID, or 0 where none is free.
-    #[tactic(auto, unfolding(tk_model::specs::Base::free_task))]
+    #[tactic(auto, unfolding(kernel_model::specs::Base::free_task))]
     pub fn free_task(&self) -> u8
         ensures free { result ≡ free_task self.now }
     {
@@ -273,7 +273,7 @@ impl Base {
     }
 
     /// The task that dispatching chooses, or 0 where none is ready.
-    #[tactic(auto, using(tk_model::proofs::Choice::chosen_is_best))]
+    #[tactic(auto, using(kernel_model::proofs::Choice::chosen_is_best))]
     pub fn chosen(&self) -> u8
         ensures { result ≡ chosen self.now }
     {
@@ -339,7 +339,7 @@ impl Base {
 }
 
 /// The least free ID of a table, or 0.
-#[tactic(auto, unfolding(tk_model::specs::Orders::free_from))]
+#[tactic(auto, unfolding(kernel_model::specs::Orders::free_from))]
 fn least_free(slots: &[Option<Task>]) -> u8
     requires { length slots.now ≡ 256 }
     ensures { result ≡ free_from 1 (drop 1 slots.now) }

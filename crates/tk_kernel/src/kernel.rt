@@ -1,10 +1,10 @@
 //! The kernel's parts and the bodies of the script, and what a statement of a task does to them.
 
 ghost use Rattle.std.specs.Prelude.{◌≡◌, ◌∷◌, ◌++◌, IfOk, OnOk, List, None, [], flat_map, replicate, slice_set, unwrap_or};
-ghost use Rattle.tk_model.specs.Base.{chosen};
-ghost use Rattle.tk_model.specs.State.{State, frame_of, no_frame, state_start};
-ghost use Rattle.tk_model.specs.Statements.{IsRunnable};
-ghost use Rattle.tk_model.specs.Step.{acted, base_call, begun, call_lines, called, dispatched, is_current, noted, ran, release_lines, said_line, with_body, with_releases, with_start};
+ghost use Rattle.kernel_model.specs.Base.{chosen};
+ghost use Rattle.kernel_model.specs.State.{State, frame_of, no_frame, state_start};
+ghost use Rattle.kernel_model.specs.Statements.{IsRunnable};
+ghost use Rattle.kernel_model.specs.Step.{acted, base_call, begun, call_lines, called, dispatched, is_current, noted, ran, release_lines, said_line, with_body, with_releases, with_start};
 
 use crate::base::Base;
 use crate::statements::{call_before, fetch, start_frame};
@@ -27,7 +27,7 @@ pub struct Kernel {
 
 impl Model for Kernel {
     ghost use Rattle.std.specs.Prelude.{◌≡◌, length};
-    ghost use Rattle.tk_model.specs.State.{State};
+    ghost use Rattle.kernel_model.specs.State.{State};
     ghost use Rattle.tk_kernel.specs.Tables.{AreTables};
 
     ghost Value = { State };
@@ -196,7 +196,7 @@ impl Kernel {
     }
 
     /// A task makes a call.
-    #[tactic(auto, unfolding(tk_model::specs::Step::called))]
+    #[tactic(auto, unfolding(kernel_model::specs::Step::called))]
     fn make_call(
         &mut self,
         step: u32,
@@ -232,7 +232,7 @@ impl Kernel {
     }
 
     /// A statement of a task.
-    #[tactic(auto, unfolding(tk_model::specs::Step::ran))]
+    #[tactic(auto, unfolding(kernel_model::specs::Step::ran))]
     pub fn run(
         &mut self,
         script: &Script,
@@ -251,7 +251,7 @@ impl Kernel {
     }
 
     /// The lines of the waits that ended, which are over then.
-    #[tactic(auto, unfolding(tk_model::specs::Step::with_releases))]
+    #[tactic(auto, unfolding(kernel_model::specs::Step::with_releases))]
     pub fn follow_releases(
         &mut self,
         script: &Script,
@@ -305,7 +305,7 @@ impl Kernel {
     }
 
     /// Dispatching, with a line where the chosen task isn't the current one.
-    #[tactic(auto, unfolding(tk_model::specs::Step::dispatched))]
+    #[tactic(auto, unfolding(kernel_model::specs::Step::dispatched))]
     pub fn dispatch(&mut self, step: u32, lines: &mut Vec<Line>) -> Result<(), AllocError>
         ensures state { OnOk result (self.new ≡ (dispatched step self.old).state) }
         ensures lines { OnOk result (lines.new.items ≡ lines.old.items ++ (dispatched step self.old).lines) }

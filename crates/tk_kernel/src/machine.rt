@@ -2,10 +2,10 @@
 
 ghost use Rattle.std.specs.Prelude.{◌≡◌, ◌<◌, ◌≤◌, ◌+◌, ◌++◌, IfOk, IsErr, OnErr, OnOk, Some, [], true};
 ghost use Rattle.std.specs.Bool.{◌==◌};
-ghost use Rattle.tk_model.specs.Base.{chosen};
-ghost use Rattle.tk_model.specs.Machine.{Machine as MachineView, after_step, new_machine};
-ghost use Rattle.tk_model.specs.Statements.{IsRunnable};
-ghost use Rattle.tk_model.specs.Step.{counted_at, followed, idle, step};
+ghost use Rattle.kernel_model.specs.Base.{chosen};
+ghost use Rattle.kernel_model.specs.Machine.{Machine as MachineView, after_step, new_machine};
+ghost use Rattle.kernel_model.specs.Statements.{IsRunnable};
+ghost use Rattle.kernel_model.specs.Step.{counted_at, followed, idle, step};
 ghost use Rattle.tk_kernel.specs.Pace.{pace_of};
 
 use crate::kernel::Kernel;
@@ -37,7 +37,7 @@ pub struct Machine {
 }
 
 impl Model for Machine {
-    ghost use Rattle.tk_model.specs.Machine.{Machine as MachineView};
+    ghost use Rattle.kernel_model.specs.Machine.{Machine as MachineView};
     ghost use Rattle.tk_kernel.specs.Budgets.{IsGoing};
 
     ghost Value = { MachineView };
@@ -95,7 +95,7 @@ fn count(
 }
 
 /// A step of a run that goes on.
-#[tactic(auto, unfolding(tk_model::specs::Step::step))]
+#[tactic(auto, unfolding(kernel_model::specs::Step::step))]
 fn advance(
     kernel: &mut Kernel,
     script: &Script,
@@ -124,7 +124,7 @@ fn advance(
 impl Machine {
     /// A machine at the start of a script, which keeps the line of its first dispatch. The script is one that
     /// some text spells, and the budget of steps is from 1 to 1,000,000.
-    #[tactic(auto, unfolding(tk_model::specs::Trace::start), using(tk_model::proofs::Steps::dispatched_turned))]
+    #[tactic(auto, unfolding(kernel_model::specs::Trace::start), using(kernel_model::proofs::Steps::dispatched_turned))]
     pub fn new(
         alloc: Global,
         script: Script,

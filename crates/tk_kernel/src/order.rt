@@ -1,7 +1,7 @@
 //! Orders of task IDs, the earliest first.
 
 ghost use Rattle.std.specs.Prelude.{◌≡◌, OnOk};
-ghost use Rattle.tk_model.specs.Orders.{without, to_back};
+ghost use Rattle.kernel_model.specs.Orders.{without, to_back};
 
 use std::alloc::AllocError;
 

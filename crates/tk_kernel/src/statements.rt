@@ -2,7 +2,7 @@
 
 ghost use Rattle.std.specs.Prelude.{◌≡◌, ◌<◌, ◌≤◌, OnSome, bytes_eq, length, position, slice_get, slice_index};
 ghost use Rattle.std.specs.Option.{option_copied};
-ghost use Rattle.tk_model.specs.Statements.{argument_value, argument_values, call_before, device_number, fetch, IsRunnable, start_frame, statement_at, value_in};
+ghost use Rattle.kernel_model.specs.Statements.{argument_value, argument_values, call_before, device_number, fetch, IsRunnable, start_frame, statement_at, value_in};
 
 use tk_types::{Act, Arg, Call, CallName, Device, Frame, SayText, Script, Stmt};
 
@@ -102,7 +102,7 @@ fn argument_values(script: &Script, frame: &Frame, args: &[Arg]) -> [u32; 5]
 }
 
 /// Does one statement of a frame, and answers what it asks of the machine.
-#[tactic(auto, unfolding(tk_model::specs::Statements::fetch))]
+#[tactic(auto, unfolding(kernel_model::specs::Statements::fetch))]
 pub fn fetch(script: &Script, frame: &mut Frame) -> Act
     requires { IsRunnable script.now }
     ensures { fetch script.now frame.old ≡ record { frame = frame.new; act = result } }
@@ -121,7 +121,7 @@ pub fn fetch(script: &Script, frame: &mut Frame) -> Act
 }
 
 /// The call in which a frame's task waits: that of the statement it passed last.
-#[tactic(auto, unfolding(tk_model::specs::Statements::call_before))]
+#[tactic(auto, unfolding(kernel_model::specs::Statements::call_before))]
 pub fn call_before(script: &Script, frame: &Frame) -> Option<CallName>
     ensures { result ≡ call_before script.now frame.now }
 {

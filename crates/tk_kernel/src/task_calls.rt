@@ -1,8 +1,8 @@
 //! The system calls on tasks and on sleep.
 
 ghost use Rattle.std.specs.Prelude.{◌≡◌, IfOk, OnOk, Some, None, true, if◌then◌else◌};
-ghost use Rattle.tk_model.specs.Checks.{failed, natural, plain, within};
-ghost use Rattle.tk_model.specs.TaskCalls.{
+ghost use Rattle.kernel_model.specs.Checks.{failed, natural, plain, within};
+ghost use Rattle.kernel_model.specs.TaskCalls.{
   caller,
   create_task,
   exit_task,
@@ -79,7 +79,7 @@ fn task_id(task: i32) -> Option<u8>
 }
 
 /// `tk_cre_tsk`: a DORMANT task with the least free ID.
-#[tactic(auto, unfolding(tk_model::specs::TaskCalls::create_task))]
+#[tactic(auto, unfolding(kernel_model::specs::TaskCalls::create_task))]
 fn create_task(
     base: &mut Base,
     attributes: Attributes,
@@ -109,7 +109,7 @@ fn create_task(
 }
 
 /// `tk_sta_tsk`: a DORMANT task becomes READY.
-#[tactic(auto, unfolding(tk_model::specs::TaskCalls::start_task))]
+#[tactic(auto, unfolding(kernel_model::specs::TaskCalls::start_task))]
 fn start_task(base: &mut Base, task: i32, code: i32) -> Result<Outcome, AllocError>
     ensures { IfOk result (λ outcome. start_task base.old task code ≡ record { base = base.new; outcome = outcome }) }
 {
@@ -130,7 +130,7 @@ fn start_task(base: &mut Base, task: i32, code: i32) -> Result<Outcome, AllocErr
 }
 
 /// `tk_ext_tsk`: the caller becomes DORMANT.
-#[tactic(auto, unfolding(tk_model::specs::TaskCalls::exit_task))]
+#[tactic(auto, unfolding(kernel_model::specs::TaskCalls::exit_task))]
 fn exit_task(base: &mut Base, who: Who) -> Outcome
     ensures { exit_task base.old who ≡ record { base = base.new; outcome = result } }
 {
@@ -139,7 +139,7 @@ fn exit_task(base: &mut Base, who: Who) -> Outcome
 }
 
 /// `tk_slp_tsk`: the caller waits for a wake-up.
-#[tactic(auto, unfolding(tk_model::specs::TaskCalls::sleep))]
+#[tactic(auto, unfolding(kernel_model::specs::TaskCalls::sleep))]
 fn sleep(base: &mut Base, who: Who, timeout: i32) -> Result<Outcome, AllocError>
     ensures { IfOk result (λ outcome. sleep base.old who timeout ≡ record { base = base.new; outcome = outcome }) }
 {
@@ -179,7 +179,7 @@ fn takes_wakeup(base: &Base, task: u8) -> bool
 }
 
 /// `tk_wup_tsk`: another task is woken.
-#[tactic(auto, unfolding(tk_model::specs::TaskCalls::wake_up))]
+#[tactic(auto, unfolding(kernel_model::specs::TaskCalls::wake_up))]
 fn wake_up(base: &mut Base, who: Who, task: i32) -> Result<Outcome, AllocError>
     ensures { IfOk result (λ outcome. wake_up base.old who task ≡ record { base = base.new; outcome = outcome }) }
 {
@@ -203,7 +203,7 @@ fn wake_up(base: &mut Base, who: Who, task: i32) -> Result<Outcome, AllocError>
 }
 
 /// A call on tasks, by its row of the table of calls.
-#[tactic(auto, unfolding(tk_model::specs::TaskCalls::task_call))]
+#[tactic(auto, unfolding(kernel_model::specs::TaskCalls::task_call))]
 pub fn call(base: &mut Base, who: Who, call: &TaskCall) -> Result<Outcome, AllocError>
     ensures { IfOk result (λ outcome. task_call base.old who call.now ≡ record { base = base.new; outcome = outcome }) }
 {

@@ -1,5 +1,3 @@
-//! The rules of the simulated kernel, as definitions that compute: the crate's `specs/` hold them, and its
-//! `proofs/` the laws about them. There is no other code than the laws that a reader should see.
+//! The rules of texts, as definitions that compute: words and lines, scripts in their printed form, the lines of a
+//! trace and the entries of a journal. The crate's `specs/` hold them; there is no other code.
 #![tactic(auto)]
-
-pub mod laws;

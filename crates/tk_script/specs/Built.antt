@@ -1,7 +1,5 @@
 -- What isn't built yet. This file and `src/built.rt` are the one place that says how much is.
-use Rattle.std.specs.Prelude.{ℕ, negsuc, ◌==◌, ◌||◌, Bool, true, false, if◌then◌else◌, List, [], ◌∷◌, length, drop, Option, Some, None, Result, Ok, Err}
-use Rattle.std.specs.List.{list_all}
-use Rattle.std.specs.Ordering.{int_eq}
+use Rattle.std.specs.Prelude.{ℕ, ◌==◌, ◌||◌, Bool, true, false, if◌then◌else◌, List, [], ◌∷◌, length, drop, Option, Some, None, Result, Ok, Err}
 use Rattle.tk_types.specs.declared.call_name.CallName.{CallName}
 use Rattle.tk_types.specs.declared.call_name.CallName.TheVariants as calls
 use Rattle.tk_types.specs.declared.script.BodyKind.{BodyKind}
@@ -11,8 +9,6 @@ use Rattle.tk_types.specs.declared.why.Why.TheVariants.{Later}
 use Rattle.tk_raw.specs.RawReading.{Refusal, raw_reading}
 use Rattle.tk_raw.specs.declared.head.Head.{Head}
 use Rattle.tk_raw.specs.declared.head.Head.TheVariants as heads
-use Rattle.tk_raw.specs.declared.raw.Piece.{Piece}
-use Rattle.tk_raw.specs.declared.raw.Piece.TheVariants as pieces
 use Rattle.tk_raw.specs.declared.raw.RawBody.{RawBody}
 use Rattle.tk_raw.specs.declared.raw.RawItem.{RawItem}
 use Rattle.tk_raw.specs.declared.raw.RawItem.TheVariants as items
@@ -28,43 +24,40 @@ is_built_kind Task = true
 is_built_kind Hand = false
 is_built_kind Svc = false
 
--- arguments of that form: of the lists the empty one
-unfoldable pub is_built_piece : Piece → Bool
-is_built_piece (pieces.Number number) = true
-is_built_piece (pieces.Register register) = false
-is_built_piece (pieces.Name name) = true
-is_built_piece (pieces.List bits) = bits == 0
-is_built_piece pieces.Dash = true
+-- calls: those on tasks
+unfoldable pub is_built_call : CallName → Bool
+is_built_call calls.TkCreTsk = true
+is_built_call calls.TkDelTsk = true
+is_built_call calls.TkStaTsk = true
+is_built_call calls.TkExtTsk = true
+is_built_call calls.TkExdTsk = true
+is_built_call calls.TkTerTsk = true
+is_built_call calls.TkChgPri = true
+is_built_call calls.TkRotRdq = true
+is_built_call calls.TkGetTid = true
+is_built_call calls.TkRefTsk = true
+is_built_call calls.TkSlpTsk = true
+is_built_call calls.TkWupTsk = true
+is_built_call calls.TkCanWup = true
+is_built_call calls.TkRelWai = true
+is_built_call calls.TkSusTsk = true
+is_built_call calls.TkRsmTsk = true
+is_built_call calls.TkFrsmTsk = true
+is_built_call calls.TkDlyTsk = true
+is_built_call _ = false
 
-abbrev pub are_built_pieces : List Piece → Bool
-are_built_pieces list = list_all is_built_piece list
-
--- a sleep without an end
-unfoldable pub is_endless : List Piece → Bool
-is_endless (pieces.Number number ∷ []) = int_eq number (negsuc 0)
-is_endless _ = false
-
--- calls with such arguments
-unfoldable pub is_built_call : CallName → List Piece → Bool
-is_built_call calls.TkCreTsk list = are_built_pieces list
-is_built_call calls.TkStaTsk list = are_built_pieces list
-is_built_call calls.TkWupTsk list = are_built_pieces list
-is_built_call calls.TkExtTsk list = true
-is_built_call calls.TkSlpTsk list = is_endless list
-is_built_call _ list = false
-
--- statements with such arguments
-unfoldable pub is_built_stmt : Head → List Piece → Bool
-is_built_stmt heads.Say list = true
-is_built_stmt (heads.Call name) list = is_built_call name list
-is_built_stmt _ list = false
+-- statements: all but the return of a handler or a service
+unfoldable pub is_built_stmt : Head → Bool
+is_built_stmt heads.Return = false
+is_built_stmt (heads.Call name) = is_built_call name
+is_built_stmt _ = true
 
 -- ---- the first line that isn't built
 
 -- a label asks nothing of the machine
 unfoldable pub is_built_item : RawItem → Bool
 is_built_item (items.Label name) = true
-is_built_item (items.Stmt stmt) = is_built_stmt stmt.head stmt.pieces
+is_built_item (items.Stmt stmt) = is_built_stmt stmt.head
 
 -- the first of these lines that isn't built; the numbers begin with the first line
 unfoldable pub unbuilt_item : List ℕ → List RawItem → Option ℕ

@@ -1,16 +1,16 @@
 //! What isn't built yet. This file and `specs/Built.antt` are the one place that says how much is.
 
 ghost use Rattle.std.specs.Prelude.{◌≡◌, length, drop};
-ghost use Rattle.tk_script.specs.Built.{are_built_pieces, first_some, first_unbuilt, is_built_call, is_built_item, is_built_kind, is_built_piece, is_built_stmt, is_endless, unbuilt_bodies, unbuilt_body, unbuilt_header, unbuilt_item, unless_built};
+ghost use Rattle.tk_script.specs.Built.{first_some, first_unbuilt, is_built_call, is_built_item, is_built_kind, is_built_stmt, unbuilt_bodies, unbuilt_body, unbuilt_header, unbuilt_item, unless_built};
 
 use crate::numbers::{behind, behind_body, boot_numbers, first_number, pace_count};
-use tk_raw::{Head, Piece, RawBody, RawItem, RawScript};
+use tk_raw::{Head, RawBody, RawItem, RawScript};
 use tk_types::{BodyKind, CallName};
 
 /// Whether `device`, `pace` and `irq` lines are built.
 const DEVICES_ARE_BUILT: bool = false;
 
-const PACE_IS_BUILT: bool = false;
+const PACE_IS_BUILT: bool = true;
 
 const INTERRUPTS_ARE_BUILT: bool = false;
 
@@ -26,61 +26,43 @@ fn is_built_kind(kind: BodyKind) -> bool
     }
 }
 
-/// Whether arguments of that form are built.
-#[tactic(auto, unfolding(crate::specs::Built::is_built_piece))]
-fn is_built_piece(piece: Piece) -> bool
-    ensures { result ≡ is_built_piece piece }
-{
-    match piece {
-        Piece::Number(_) => true,
-        Piece::Register(_) => false,
-        Piece::Name(_) => true,
-        Piece::List(bits) => bits == 0,
-        Piece::Dash => true,
-    }
-}
-
-fn are_built_pieces(pieces: &[Piece]) -> bool
-    ensures { result ≡ are_built_pieces pieces.now }
-{
-    pieces.iter().all(|piece| is_built_piece(*piece))
-}
-
-/// Whether these are the arguments of a sleep without an end.
-#[tactic(auto, unfolding(crate::specs::Built::is_endless))]
-fn is_endless(pieces: &[Piece]) -> bool
-    ensures { result ≡ is_endless pieces.now }
-{
-    match pieces {
-        [Piece::Number(number)] => *number == -1,
-        _ => false,
-    }
-}
-
-/// Whether a call with such arguments is built.
+/// Whether a call is built.
 #[tactic(auto, unfolding(crate::specs::Built::is_built_call))]
-fn is_built_call(name: CallName, pieces: &[Piece]) -> bool
-    ensures { result ≡ is_built_call name pieces.now }
+fn is_built_call(name: CallName) -> bool
+    ensures { result ≡ is_built_call name }
 {
     match name {
-        CallName::TkCreTsk => are_built_pieces(pieces),
-        CallName::TkStaTsk => are_built_pieces(pieces),
-        CallName::TkWupTsk => are_built_pieces(pieces),
-        CallName::TkExtTsk => true,
-        CallName::TkSlpTsk => is_endless(pieces),
+        CallName::TkCreTsk
+        | CallName::TkDelTsk
+        | CallName::TkStaTsk
+        | CallName::TkExtTsk
+        | CallName::TkExdTsk
+        | CallName::TkTerTsk
+        | CallName::TkChgPri
+        | CallName::TkRotRdq
+        | CallName::TkGetTid
+        | CallName::TkRefTsk
+        | CallName::TkSlpTsk
+        | CallName::TkWupTsk
+        | CallName::TkCanWup
+        | CallName::TkRelWai
+        | CallName::TkSusTsk
+        | CallName::TkRsmTsk
+        | CallName::TkFrsmTsk
+        | CallName::TkDlyTsk => true,
         _ => false,
     }
 }
 
-/// Whether a statement with such arguments is built.
+/// Whether a statement is built.
 #[tactic(auto, unfolding(crate::specs::Built::is_built_stmt))]
-fn is_built_stmt(head: Head, pieces: &[Piece]) -> bool
-    ensures { result ≡ is_built_stmt head pieces.now }
+fn is_built_stmt(head: Head) -> bool
+    ensures { result ≡ is_built_stmt head }
 {
     match head {
-        Head::Say => true,
-        Head::Call(name) => is_built_call(name, pieces),
-        _ => false,
+        Head::Return => false,
+        Head::Call(name) => is_built_call(name),
+        _ => true,
     }
 }
 
@@ -91,7 +73,7 @@ fn is_built_item(item: &RawItem) -> bool
 {
     match item {
         RawItem::Label(_) => true,
-        RawItem::Stmt(stmt) => is_built_stmt(stmt.head, stmt.pieces.as_slice()),
+        RawItem::Stmt(stmt) => is_built_stmt(stmt.head),
     }
 }
 

@@ -124,7 +124,7 @@ fn the_first_line_not_built_is_told(rt: HostRuntime) -> Result<(), Fail> {
     let alloc = rt.alloc();
     let cases: [(&str, Option<(u32, Why)>); 8] = [
         (
-            "utk 1\nboot main 10\nbody main task\ntk_cre_tsk - main 5 512\ntk_sta_tsk 2 0\ntk_slp_tsk -1\ntk_wup_tsk 2\nsay hello\ntk_ext_tsk\nend\n",
+            "utk 1\nboot main 10\nbody main task\ntk_cre_tsk TA_ASM main 5 r1\nldb r2 0\nlabel on\njump on\ntk_dly_tsk 2\nshow 3\ntk_ref_tsk 1\nhalt\nend\n",
             None,
         ),
         (
@@ -133,14 +133,14 @@ fn the_first_line_not_built_is_told(rt: HostRuntime) -> Result<(), Fail> {
         ),
         (
             "utk 1\n\npace 1\nirq 1 1\nboot main 10\nbody main task\nend\n",
-            Some((3, Why::Later)),
+            Some((4, Why::Later)),
         ),
         (
             "utk 1\nirq 1 1\nboot main 10\nbody main task\nend\n",
             Some((2, Why::Later)),
         ),
         (
-            "utk 1\nboot main 10\nbody main task\nlabel a\n# note\ntk_slp_tsk 5\nend\n",
+            "utk 1\nboot main 10\nbody main task\nlabel a\n# note\ntk_cre_sem - 0 1\nend\n",
             Some((6, Why::Later)),
         ),
         (
@@ -148,7 +148,7 @@ fn the_first_line_not_built_is_told(rt: HostRuntime) -> Result<(), Fail> {
             Some((5, Why::Later)),
         ),
         (
-            "utk 1\nboot main 10\nbody main task\nend\nbody other task\nnop\nend\n",
+            "utk 1\nboot main 10\nbody main task\nend\nbody other task\nDI\nend\n",
             Some((6, Why::Later)),
         ),
         (

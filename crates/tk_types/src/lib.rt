@@ -35,5 +35,5 @@ pub use script::{
     Reading, Script, Stmt,
 };
 pub use sequence::Sequence;
-pub use task::{Phase, Release, Task};
+pub use task::{DueEvent, Event, Flags, Order, Phase, Release, Task};
 pub use why::Why;

@@ -1,5 +1,5 @@
 use Rattle.std.proofs.Common.{◌≡◌, drop}
-use Rattle.tk_model.specs.Orders.{free_from}
+use Rattle.kernel_model.specs.Orders.{free_from}
 use Rattle.tk_kernel.proofs.base.least_free.Given as goal
 
 -- the least free ID of what is left is that of all

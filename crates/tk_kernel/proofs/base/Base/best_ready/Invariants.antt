@@ -1,6 +1,6 @@
 use Rattle.std.proofs.Common.{◌≡◌, None, drop}
-use Rattle.tk_model.specs.Base.{is_ready, current}
-use Rattle.tk_model.specs.Choice.{best_of}
+use Rattle.kernel_model.specs.Base.{is_ready, current}
+use Rattle.kernel_model.specs.Choice.{best_of}
 use Rattle.tk_kernel.proofs.base.Base.best_ready.Given as goal
 
 -- the best of what is left, from the best so far, is the best of all

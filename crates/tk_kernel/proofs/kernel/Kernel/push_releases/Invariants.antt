@@ -1,6 +1,6 @@
 use Rattle.std.proofs.Common.{◌≡◌, ◌++◌, take}
 use Rattle.std.specs.Prelude.{flat_map}
-use Rattle.tk_model.specs.Step.{release_lines}
+use Rattle.kernel_model.specs.Step.{release_lines}
 use Rattle.tk_kernel.proofs.kernel.Kernel.push_releases.Given as goal
 
 -- the lines so far are those of the waits so far

@@ -5,8 +5,9 @@ use Rattle.tk_types.specs.declared.run.Mode.{Mode}
 use Rattle.tk_types.specs.declared.run.End.{End}
 use Rattle.tk_types.specs.declared.run.End.TheVariants as ends
 use Rattle.tk_types.specs.declared.line.Line.{Line}
-use Rattle.tk_model.specs.State.{State, state_start}
-use Rattle.tk_model.specs.Step.{Event, step, dispatched}
+use Rattle.kernel_model.specs.State.{State, state_start}
+use Rattle.kernel_model.specs.Settle.{Event, dispatched}
+use Rattle.kernel_model.specs.Step.{step}
 
 pub record Trace : Type 0 where
   pub lines : List Line

@@ -1,7 +1,7 @@
 -- Which task is the first to run, in the words of the subject: one that is ready, of the least priority number,
 -- and of those the one that stands first in the order of stamps.
 use Rattle.std.specs.Prelude.{◌≡◌, ℕ, ◌<◌, ◌≤◌, Bool, true, List, [], ◌∷◌, ◌++◌}
-use Rattle.tk_model.specs.Base.{Base, is_ready, current}
+use Rattle.kernel_model.specs.Base.{Base, is_ready, current}
 
 -- of these tasks each that is ready has a lower priority than this number
 abbrev pub AllLower : (ℕ → Bool) → (ℕ → ℕ) → ℕ → List ℕ → Type 0

@@ -4,9 +4,9 @@ use Rattle.tk_types.specs.declared.script.Script.{Script}
 use Rattle.tk_types.specs.declared.run.Mode.{Mode}
 use Rattle.tk_types.specs.declared.run.End.{End}
 use Rattle.tk_types.specs.declared.line.Line.{Line}
-use Rattle.tk_model.specs.State.{State}
-use Rattle.tk_model.specs.Step.{Stepped, step}
-use Rattle.tk_model.specs.Trace.{start}
+use Rattle.kernel_model.specs.State.{State}
+use Rattle.kernel_model.specs.Step.{Stepped, step}
+use Rattle.kernel_model.specs.Trace.{start}
 
 pub record Machine : Type 0 where
   pub script : Script

@@ -1,0 +1,22 @@
+-- Current priorities, and the first half of settling: they are brought up to date.
+use Rattle.std.specs.Prelude.{ℕ, ◌+◌, ◌==◌, if◌then◌else◌, List, [], ◌∷◌, Option, Some, None, fold, drop}
+use Rattle.tk_types.specs.declared.task.Task.{Task}
+use Rattle.kernel_model.specs.Base.{Base, current, base_of, set_current}
+
+-- the current priority by definition: a task holds no mutex yet, so it is its base priority
+abbrev pub current_of : Base → ℕ → ℕ
+current_of b t = base_of b t
+
+-- a task whose current priority isn't that of its definition takes that one, with a new stamp
+abbrev pub refresh : Base → ℕ → Base
+refresh b t = if current b t == current_of b t then b else set_current b t (current_of b t)
+
+-- the IDs that are taken, rising, where the slots begin with this ID
+abbrev pub taken_from : {A : Type 0} → ℕ → List (Option A) → List ℕ
+taken_from id [] = []
+taken_from id (None ∷ slots) = taken_from (id + 1) slots
+taken_from id (Some k ∷ slots) = id ∷ taken_from (id + 1) slots
+
+-- each changed current priority is taken over, in rising ID
+unfoldable pub resettle : Base → Base
+resettle b = fold refresh b (taken_from 1 (drop 1 b.tasks))

@@ -1,4 +1,0 @@
-pub mod Choice
-pub mod Steps
-pub mod Precedence
-pub mod Preemption
