@@ -3,7 +3,7 @@
 -- `order` and `since` stand for stamps: a task takes the last place of `order` when it becomes READY, when it
 -- begins a wait, and when its current priority changes, and of `since` when it begins a wait. Only which task
 -- is earlier counts, so no numbers are kept. A preempted task keeps its place.
-use Rattle.std.specs.Prelude.{ℕ, ◌+◌, ◌-◌, Bool, true, false, not, ◌==◌, ◌&&◌, nat_lt, nat_le, if◌then◌else◌, ℤ, pos, negsuc, List, [], ◌∷◌, ◌++◌, length, Option, Some, None, filter, replicate, slice_set, drop}
+use Rattle.std.specs.Prelude.{ℕ, ◌+◌, ◌-◌, Bool, true, false, not, ◌==◌, ◌&&◌, nat_le, if◌then◌else◌, ℤ, pos, negsuc, List, [], ◌∷◌, ◌++◌, Option, Some, None, filter, replicate, slice_set, drop}
 use Rattle.tk_types.specs.declared.task.Task.{Task}
 use Rattle.tk_types.specs.declared.task.Phase.{Phase}
 use Rattle.tk_types.specs.declared.task.Phase.TheVariants.{Dormant, Ready, Waiting}
@@ -235,7 +235,7 @@ make_wait b t object order timeout = with_entry (task_at b t) b (λ k. limited t
 -- a task that waits waits for another object from now on, without a limit
 abbrev pub move_wait : Base → ℕ → ℕ → Order → Base
 move_wait b t object order = with_entry (task_at b t) b (λ k.
-  if is_waiting_phase k.phase then with_task (drop_wait b t) t (record k { phase = Waiting object; queue = order }) else b)
+    if is_waiting_phase k.phase then with_task (drop_wait b t) t (record k { phase = Waiting object; queue = order }) else b)
 
 -- the last place, for a task that becomes READY: one that is suspended stays where it is
 abbrev pub back_unless_suspended : ℕ → ℕ → List ℕ → List ℕ
@@ -248,10 +248,10 @@ recorded t result released = filter (λ release. not (release.task == t)) releas
 -- a task's wait ends with an answer: it becomes READY, the last among its equals, or stays suspended
 abbrev pub release : Base → ℕ → Answer → Base
 release b t result = with_entry (task_at b t) b (λ k.
-  if is_waiting_phase k.phase then record (with_task (drop_wait b t) t (record k { phase = Ready })) {
-    order = back_unless_suspended t k.suspensions b.order;
-    released = recorded t result b.released;
-  } else b)
+    if is_waiting_phase k.phase then record (with_task (drop_wait b t) t (record k { phase = Ready })) {
+      order = back_unless_suspended t k.suspensions b.order;
+      released = recorded t result b.released;
+    } else b)
 
 -- a task ends: its wait is dropped, its counts are cleared, and its priorities are those of its creation
 abbrev pub make_dormant : Base → ℕ → Base
@@ -275,7 +275,7 @@ resumed b t left k = record (with_task b t (record k { suspensions = left })) {
 -- goes on waiting. A task that isn't suspended is left as it is
 abbrev pub resume : Base → ℕ → Bool → Base
 resume b t all = with_entry (task_at b t) b (λ k.
-  if k.suspensions == 0 then b else resumed b t (if all then 0 else k.suspensions - 1) k)
+    if k.suspensions == 0 then b else resumed b t (if all then 0 else k.suspensions - 1) k)
 
 -- a task's base priority changes
 abbrev pub set_base : Base → ℕ → ℕ → Base

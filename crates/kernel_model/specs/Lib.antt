@@ -1,5 +1,6 @@
 pub mod Orders
 pub mod Choice
+pub mod Once
 pub mod Events
 pub mod Checks
 pub mod Base

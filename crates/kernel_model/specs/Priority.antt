@@ -1,6 +1,5 @@
 -- Current priorities, and the first half of settling: they are brought up to date.
 use Rattle.std.specs.Prelude.{ℕ, ◌+◌, ◌==◌, if◌then◌else◌, List, [], ◌∷◌, Option, Some, None, fold, drop}
-use Rattle.tk_types.specs.declared.task.Task.{Task}
 use Rattle.kernel_model.specs.Base.{Base, current, base_of, set_current}
 
 -- the current priority by definition: a task holds no mutex yet, so it is its base priority

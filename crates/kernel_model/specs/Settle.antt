@@ -5,7 +5,7 @@ use Rattle.tk_types.specs.declared.call_name.CallName.{CallName}
 use Rattle.tk_types.specs.declared.task.Release.{Release}
 use Rattle.tk_types.specs.declared.line.Line.{Line}
 use Rattle.tk_types.specs.declared.line.Line.TheVariants as lines
-use Rattle.kernel_model.specs.Base.{Base, chosen, dispatch}
+use Rattle.kernel_model.specs.Base.{chosen, dispatch}
 use Rattle.kernel_model.specs.Priority.{resettle}
 use Rattle.kernel_model.specs.Statements.{call_before, give}
 use Rattle.kernel_model.specs.State.{State, frame_of, with_frame}

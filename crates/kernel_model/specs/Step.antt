@@ -13,7 +13,7 @@ use Rattle.tk_types.specs.declared.run.End.TheVariants as ends
 use Rattle.tk_types.specs.declared.line.Line.{Line}
 use Rattle.tk_types.specs.declared.line.Line.TheVariants as lines
 use Rattle.tk_types.specs.declared.line.LastLine.TheVariants as lasts
-use Rattle.kernel_model.specs.Base.{Base, chosen}
+use Rattle.kernel_model.specs.Base.{chosen}
 use Rattle.kernel_model.specs.Statements.{Fetched, fetch}
 use Rattle.kernel_model.specs.State.{State, frame_of, with_frame}
 use Rattle.kernel_model.specs.Settle.{Event, behind, followed}

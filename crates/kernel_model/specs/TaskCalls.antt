@@ -4,7 +4,6 @@ use Rattle.std.specs.Option.{is_some}
 use Rattle.std.specs.Ordering.{int_eq}
 use Rattle.tk_types.specs.declared.answer.Who.{Who}
 use Rattle.tk_types.specs.declared.answer.Who.TheVariants as whos
-use Rattle.tk_types.specs.declared.answer.Answer.{Answer}
 use Rattle.tk_types.specs.declared.answer.Outcome.{Outcome}
 use Rattle.tk_types.specs.declared.answer.Outcome.TheVariants.{Returned, Blocked}
 use Rattle.tk_types.specs.declared.error_code.Er.{Er}
@@ -12,14 +11,13 @@ use Rattle.tk_types.specs.declared.error_code.Er.TheVariants as er
 use Rattle.tk_types.specs.declared.modes.Attributes.{Attributes}
 use Rattle.tk_types.specs.declared.task.Task.{Task}
 use Rattle.tk_types.specs.declared.task.Order.TheVariants.{Fifo}
-use Rattle.tk_types.specs.declared.task.Flags.{Flags}
 use Rattle.tk_types.specs.declared.calls.TaskCall.{TaskCall}
 use Rattle.tk_types.specs.declared.calls.TaskCall.TheVariants as call
 use Rattle.tk_types.specs.Codes.{code_of}
 use Rattle.kernel_model.specs.declared.marks.Mark.TheVariants.{MayWait}
 use Rattle.kernel_model.specs.Orders.{to_back}
 use Rattle.kernel_model.specs.Checks.{Check, ◌otherwise◌, first_error, within, natural, answer, plain, failed, done}
-use Rattle.kernel_model.specs.Base.{Base, task_at, is_ready, is_dormant, is_waiting, waits_for, current, initial_of, wakeups_of, suspensions_of, free_task, has_room, create, delete, make_ready, make_wait, make_dormant, release, suspend, resume, set_base, set_wakeups, rotate, take_bytes, set_flags, with_entry}
+use Rattle.kernel_model.specs.Base.{Base, task_at, is_dormant, is_waiting, waits_for, current, initial_of, wakeups_of, suspensions_of, free_task, has_room, create, delete, make_ready, make_wait, make_dormant, release, suspend, resume, set_base, set_wakeups, rotate, take_bytes, set_flags}
 use Rattle.kernel_model.specs.Marks.{allows, is_task}
 use Rattle.kernel_model.specs.Views.{is_current, state_in}
 

@@ -1,10 +1,9 @@
 -- What a task shows of itself: its state by the numbers of `tk_ref_tsk`, and where its wait stands.
-use Rattle.std.specs.Prelude.{ℕ, ◌==◌, ◌&&◌, if◌then◌else◌, Bool, true, false, Option, Some, None, position}
+use Rattle.std.specs.Prelude.{ℕ, ◌==◌, if◌then◌else◌, Bool, true, false, Option, Some, None}
 use Rattle.tk_types.specs.declared.task.Task.{Task}
 use Rattle.tk_types.specs.declared.task.Phase.{Phase}
 use Rattle.tk_types.specs.declared.task.Phase.TheVariants.{Dormant, Ready, Waiting}
-use Rattle.kernel_model.specs.Base.{Base, task_at}
-use Rattle.kernel_model.specs.Events.{limit_of}
+use Rattle.kernel_model.specs.Base.{Base}
 
 -- whether a task is the current one
 abbrev pub is_current : ℕ → Option ℕ → Bool

@@ -3,4 +3,5 @@
 //! reader should see.
 #![tactic(auto)]
 
+pub mod laws;
 pub mod marks;

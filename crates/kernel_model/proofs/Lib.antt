@@ -1,0 +1,3 @@
+pub mod Choice
+pub mod Precedence
+pub mod Once
