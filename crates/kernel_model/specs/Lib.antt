@@ -15,6 +15,7 @@ pub mod Settle
 pub mod Calls
 pub mod Ticks
 pub mod Step
+pub mod Counts
 pub mod Trace
 pub mod Machine
 pub mod Rows

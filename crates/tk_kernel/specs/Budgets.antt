@@ -2,13 +2,13 @@
 use Rattle.std.specs.Prelude.{ℕ, ◌≡◌, ◌<◌, ◌≤◌, Bool, false, Option, Some, None}
 use Rattle.tk_types.specs.declared.script.Script.{Script}
 use Rattle.tk_types.specs.declared.run.End.{End}
-use Rattle.kernel_model.specs.Base.{chosen}
+use Rattle.kernel_model.specs.Counts.{IsCounted}
 use Rattle.kernel_model.specs.State.{State}
 use Rattle.kernel_model.specs.Statements.{IsRunnable}
 
--- while the run goes on, a step of the budget is left and the chosen task is the current one
+-- while the run goes on, a step of the budget is left, and no count passes that of the steps
 pub record IsGoing (script : Script) (budget : ℕ) (state : State) (over : Option End) (failed : Bool) : Type 0 where
   pub runnable : IsRunnable script
   pub limit : budget ≤ 1000000
   pub left : failed ≡ false → over ≡ None → state.steps < budget
-  pub turned : failed ≡ false → over ≡ None → state.base.cur ≡ Some (chosen state.base)
+  pub counts : failed ≡ false → over ≡ None → IsCounted state

@@ -1,11 +1,12 @@
-//! The machine: the kernel and the bodies of a script, done step by step.
+//! The machine: it runs a script step by step and keeps the lines of the trace.
 #![tactic(auto)]
 
-mod base;
+mod calls;
 mod kernel;
 mod machine;
-mod order;
-mod statements;
-mod task_calls;
+mod running;
+mod settling;
+mod stepping;
+mod ticks;
 
 pub use machine::{Machine, Pace};

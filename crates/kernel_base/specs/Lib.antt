@@ -1,0 +1,4 @@
+pub mod Room
+pub mod Views
+pub mod Queues
+pub mod Handlers

@@ -1,0 +1,37 @@
+-- Why no move takes memory: lists of the base hold each task at most once, and their room was taken at the start.
+use Rattle.std.specs.Prelude.{ℕ, zero, ◌≡◌, ◌+◌, ◌≤◌, ◌<◌, ◌==◌, if◌then◌else◌, List, [], ◌∷◌, Option, map, length}
+use Rattle.tk_types.specs.declared.task.Task.{Task}
+use Rattle.tk_types.specs.declared.task.Event.{Event}
+use Rattle.tk_types.specs.declared.task.Event.TheVariants.{Wait, Cyclic, Alarm}
+use Rattle.tk_types.specs.declared.task.DueEvent.{DueEvent}
+use Rattle.tk_types.specs.declared.task.Release.{Release}
+use Rattle.kernel_model.specs.Once.{IsOnce}
+
+-- an order of task IDs
+pub record IsOrder (ids : List ℕ) (capacity : ℕ) : Type 0 where
+  pub once : IsOnce ids
+  pub room : 256 ≤ capacity
+
+-- the ends of waits that weren't taken yet, one for each task at most
+pub record AreReleases (releases : List Release) (capacity : ℕ) : Type 0 where
+  pub once : IsOnce (map (λ release. release.task) releases)
+  pub room : 256 ≤ capacity
+
+-- a number for each event that there can be
+abbrev pub number_of : Event → ℕ
+number_of (Wait task) = task
+number_of (Cyclic id) = 256 + id
+number_of (Alarm id) = 512 + id
+
+-- the most events that can be set
+abbrev pub most_events : ℕ
+most_events = 768
+
+abbrev pub numbers_of : List DueEvent → List ℕ
+numbers_of events = map (λ event. number_of event.what) events
+
+-- what holds of the base between its moves: a slot for each ID, and each event set once at most
+pub record IsBase (tasks : List (Option Task)) (events : List DueEvent) (most : ℕ) : Type 0 where
+  pub slots : length tasks ≡ 256
+  pub once : IsOnce (numbers_of events)
+  pub room : most ≡ most_events

@@ -1,0 +1,65 @@
+//! Tasks are made, started and ended.
+
+ghost use Rattle.std.specs.Prelude.{◌≡◌};
+ghost use Rattle.kernel_model.specs.Base.{create, delete, gone, make_dormant, make_ready};
+
+use crate::base::Base;
+use crate::rows::{created, ended, readied};
+
+/// The current task, which is gone where it is that one.
+pub(crate) fn gone(task: u8, cur: Option<u8>) -> Option<u8>
+    ensures { result ≡ gone task cur }
+{
+    match cur {
+        None => None,
+        Some(other) => { if other == task { None } else { Some(other) } }
+    }
+}
+
+impl Base {
+    /// A new task, DORMANT. The stack's bytes were taken before.
+    pub fn create(&mut self, task: u8, pri: u8, stack: u32)
+        ensures { self.new ≡ create self.old task pri stack }
+    {
+        self.order.move_to_back(task);
+        self.since.move_to_back(task);
+        self.tasks[task as usize] = Some(created(pri, stack));
+    }
+
+    /// Makes a task's ID free again, and gives its stack's bytes back.
+    pub fn delete(&mut self, task: u8)
+        ensures { self.new ≡ delete self.old task }
+    {
+        let Some(row) = self.task(task) else {
+            return;
+        };
+        self.order.take_out(task);
+        self.since.take_out(task);
+        self.tasks[task as usize] = None;
+        self.bytes = self.bytes.saturating_sub(row.stack);
+    }
+
+    /// A task becomes READY, the last among its equals.
+    pub fn make_ready(&mut self, task: u8)
+        ensures { self.new ≡ make_ready self.old task }
+    {
+        let Some(row) = self.task(task) else {
+            return;
+        };
+        self.order.move_to_back(task);
+        self.tasks[task as usize] = Some(readied(row));
+    }
+
+    /// A task ends: its wait is dropped with its event, its wake-up requests and suspensions are cleared, and its
+    /// priorities are those of its creation. Where it was the current one, that is gone.
+    pub fn make_dormant(&mut self, task: u8)
+        ensures { self.new ≡ make_dormant self.old task }
+    {
+        let Some(row) = self.task(task) else {
+            return;
+        };
+        self.due.drop_wait(task);
+        self.tasks[task as usize] = Some(ended(row));
+        self.cur = gone(task, self.cur);
+    }
+}

@@ -1,0 +1,73 @@
+//! An order of task IDs, the earliest first, each at most once. Its room is taken once, for all 256.
+
+ghost use Rattle.std.specs.Prelude.{◌≡◌, ◌∷◌, IfOk, [], vec_capacity};
+ghost use Rattle.kernel_model.specs.Orders.{to_back, without};
+
+use std::alloc::{AllocError, Global};
+use std::marker::Model;
+
+/// An order of task IDs.
+#[derive(Drop)]
+pub(crate) struct Ids {
+    list: Vec<u8>,
+}
+
+impl Model for Ids {
+    ghost use Rattle.std.specs.Prelude.{List, ℕ, vec_capacity};
+    ghost use Rattle.kernel_base.specs.Room.{IsOrder};
+
+    ghost Value = { List ℕ };
+
+    ghost view = { λ ids. ids.list.items };
+
+    ghost invariant = { λ ids. IsOrder ids.list.items (vec_capacity ids.list) };
+}
+
+/// Takes an ID out of a list.
+fn take_out(list: &mut Vec<u8>, id: u8)
+    ensures items { list.new.items ≡ without id list.old.items }
+    ensures capacity { vec_capacity list.new ≡ vec_capacity list.old }
+{
+    let mut kept = 0;
+    'places: for place in 0..list.len() {
+        let other = list[place];
+        if other != id {
+            list[kept] = other;
+            kept += 1;
+        }
+    }
+    list.truncate(kept);
+}
+
+impl Ids {
+    /// An order of one ID.
+    pub(crate) fn one(alloc: Global, id: u8) -> Result<Ids, AllocError>
+        ensures { IfOk result (λ ids. ids ≡ id ∷ []) }
+    {
+        let mut list = Vec::with_capacity(alloc, 256)?;
+        list.push_reserved(id);
+        Ok(Ids { list })
+    }
+
+    /// Takes an ID out.
+    pub(crate) fn take_out(&mut self, id: u8)
+        ensures { self.new ≡ without id self.old }
+    {
+        take_out(&mut self.list, id);
+    }
+
+    /// An ID takes the last place: it is the latest from now on.
+    pub(crate) fn move_to_back(&mut self, id: u8)
+        ensures { self.new ≡ to_back id self.old }
+    {
+        take_out(&mut self.list, id);
+        self.list.push_reserved(id);
+    }
+
+    /// The IDs in order.
+    pub(crate) fn as_slice(&self) -> &[u8]
+        ensures { result.now ≡ self.now }
+    {
+        self.list.as_slice()
+    }
+}

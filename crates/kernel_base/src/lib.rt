@@ -1,0 +1,20 @@
+//! The base of the kernel: what it keeps of tasks, and the moves on it, of which all calls are made.
+#![tactic(auto)]
+
+pub mod answers;
+mod base;
+mod calls;
+mod ending;
+mod events;
+mod ids;
+mod priorities;
+mod reading;
+mod releases;
+mod rows;
+mod suspending;
+mod view;
+mod waiting;
+
+pub use base::Base;
+pub use tk_types::{Event, Flags, Order, Release};
+pub use view::TaskView;

@@ -1,0 +1,77 @@
+//! Priorities change, and ready tasks are rotated.
+
+ghost use Rattle.std.specs.Prelude.{◌≡◌, ◌≤ℤ◌, pos};
+ghost use Rattle.kernel_model.specs.TaskCalls.{change_priority, new_base, rebased, rotate_ready, rotated_priority};
+
+use crate::names::named_task;
+use kernel_base::Base;
+use kernel_base::answers::{done, failed};
+use tk_types::{Er, Outcome, Who};
+
+/// The new base priority: 0 is the initial one.
+fn new_base(base: &Base, task: u8, priority: i32) -> u8
+    requires low { pos 0 ≤ℤ priority }
+    requires high { priority ≤ℤ pos 140 }
+    ensures { result ≡ new_base base.now task priority }
+{
+    if priority == 0 {
+        return base.initial_of(task);
+    }
+    priority as u8
+}
+
+/// Sets a task's base priority. Where the current priority keeps its value and equals the base, the task takes a new
+/// stamp; where it is to change, settling does that.
+fn rebase(base: &mut Base, task: u8, priority: u8)
+    ensures { base.new ≡ rebased base.old task priority }
+{
+    let keeps = base.current(task) == priority;
+    base.set_base(task, priority);
+    if keeps {
+        base.restamp(task);
+    }
+}
+
+/// `tk_chg_pri`: a task's base priority changes.
+#[tactic(auto, unfolding(kernel_model::specs::TaskCalls::change_priority))]
+pub(crate) fn change_priority(base: &mut Base, who: Who, task: i32, priority: i32) -> Outcome
+    ensures { change_priority base.old who task priority ≡ record { base = base.new; outcome = result } }
+{
+    let Some(id) = named_task(who, task) else {
+        return failed(Er::Id);
+    };
+    if priority < 0 || priority > 140 {
+        return failed(Er::Par);
+    }
+    if !base.exists(id) {
+        return failed(Er::NoExs);
+    }
+    let priority = new_base(base, id, priority);
+    rebase(base, id, priority);
+    done(0)
+}
+
+/// The priority whose tasks are rotated: 0 is that of the current task, and none where there is no current task.
+fn rotated_priority(base: &Base, priority: i32) -> u8
+    requires low { pos 0 ≤ℤ priority }
+    requires high { priority ≤ℤ pos 140 }
+    ensures { result ≡ rotated_priority base.now priority }
+{
+    if priority == 0 {
+        return base.current(base.cur().unwrap_or(0));
+    }
+    priority as u8
+}
+
+/// `tk_rot_rdq`: the first ready task of a priority becomes the last of it.
+#[tactic(auto, unfolding(kernel_model::specs::TaskCalls::rotate_ready))]
+pub(crate) fn rotate_ready(base: &mut Base, priority: i32) -> Outcome
+    ensures { rotate_ready base.old priority ≡ record { base = base.new; outcome = result } }
+{
+    if priority < 0 || priority > 140 {
+        return failed(Er::Par);
+    }
+    let priority = rotated_priority(base, priority);
+    base.rotate(priority);
+    done(0)
+}

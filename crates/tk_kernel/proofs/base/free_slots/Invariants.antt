@@ -1,5 +1,0 @@
-use Rattle.std.proofs.Common.{◌≡◌, None, replicate}
-use Rattle.tk_kernel.proofs.base.free_slots.Given as goal
-
-abbrev pub invariant-slots : goal.invariant-slots
-invariant-slots l = l.slots.items ≡ replicate l._id None

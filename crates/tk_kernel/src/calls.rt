@@ -1,0 +1,130 @@
+//! Calls of tasks, and what follows from them for the bodies of the script.
+
+ghost use Rattle.std.specs.Prelude.{◌≡◌, ◌<◌, ◌^◌, ◌++◌, OnOk};
+ghost use Rattle.kernel_model.specs.Calls.{answered, base_call, begun, call_lines, called, noted, with_body, with_start};
+
+use crate::kernel::Kernel;
+use kernel_base::Base;
+use kernel_base::answers::failed;
+use std::alloc::AllocError;
+use task_machine::{give, start_frame};
+use tk_types::{Call, CallName, Er, Line, Outcome, TaskCall, Who};
+
+/// A call of a task, by the family of the call.
+#[tactic(auto, unfolding(kernel_model::specs::Calls::base_call))]
+fn base_call(base: &mut Base, task: u8, call: &Call) -> Outcome
+    requires few { base.old.made < 2 ^ 63 }
+    requires early { base.old.time < 2 ^ 63 }
+    ensures { base_call base.old task call.now ≡ record { base = base.new; outcome = result } }
+{
+    match call {
+        Call::Task(call) => task_calls::call(base, Who::Task(task), call),
+        _ => failed(Er::NoSpt),
+    }
+}
+
+/// Adds the line of a call: it returned, or its task waits. The entry of an extended call has none.
+fn push_call_line(
+    lines: &mut Vec<Line>,
+    step: u32,
+    task: u8,
+    call: CallName,
+    outcome: Outcome,
+) -> Result<(), AllocError>
+    ensures { OnOk result (lines.new.items ≡ lines.old.items ++ call_lines step task call outcome) }
+{
+    match outcome {
+        Outcome::Returned(answer) => lines.push(Line::Returned {
+            step,
+            who: task,
+            call,
+            answer,
+        })?,
+        Outcome::Blocked => lines.push(Line::Blocked { step, task, call })?,
+        Outcome::Entered(_) => {}
+    }
+    Ok(())
+}
+
+impl Kernel {
+    /// A created task gets its body.
+    fn set_body(&mut self, task: i32, body: u8)
+        ensures { self.new ≡ with_body self.old task body }
+    {
+        if task > 0 && task < 256 {
+            self.bodies[task as usize] = body;
+        }
+    }
+
+    /// A started task is at the start of its body.
+    fn start_body(&mut self, task: i32, code: i32)
+        ensures { self.new ≡ with_start self.old task code }
+    {
+        if task >= 0 && task < 256 {
+            let body = self.bodies[task as usize];
+            self.frames[task as usize] = start_frame(body, code, 0);
+        }
+    }
+
+    /// What follows from a call on tasks that answered a value.
+    fn begin(&mut self, task: u8, call: &TaskCall, value: i32)
+        ensures { self.new ≡ begun self.old task call.now value }
+    {
+        match *call {
+            TaskCall::CreTsk { body, .. } => self.set_body(value, body),
+            TaskCall::StaTsk { task, code } => {
+                if value == 0 {
+                    self.start_body(task, code);
+                }
+            }
+            TaskCall::ExdTsk => self.base.delete(task),
+            _ => {}
+        }
+    }
+
+    /// What follows from a call that answered a value.
+    fn note(&mut self, task: u8, call: &Call, value: i32)
+        ensures { self.new ≡ noted self.old task call.now value }
+    {
+        match call {
+            Call::Task(call) => self.begin(task, call, value),
+            _ => {}
+        }
+    }
+
+    /// What became of a call: an answer goes into the registers of the caller.
+    #[tactic(auto, unfolding(kernel_model::specs::Calls::answered))]
+    fn take_answer(&mut self, task: u8, call: &Call, outcome: Outcome)
+        ensures { self.new ≡ answered self.old task call.now outcome }
+    {
+        match outcome {
+            Outcome::Returned(answer) => {
+                let mut frame = self.frame(task);
+                give(&mut frame, &answer);
+                self.set_frame(task, frame);
+                self.note(task, call, answer.value);
+            }
+            Outcome::Blocked => {}
+            Outcome::Entered(_) => {}
+        }
+    }
+
+    /// A task makes a call.
+    #[tactic(auto, unfolding(kernel_model::specs::Calls::called))]
+    pub(crate) fn make_call(
+        &mut self,
+        step: u32,
+        task: u8,
+        call: &Call,
+        lines: &mut Vec<Line>,
+    ) -> Result<(), AllocError>
+        requires few { self.old.base.made < 2 ^ 63 }
+        requires early { self.old.base.time < 2 ^ 63 }
+        ensures state { OnOk result (self.new ≡ (called step self.old task call.now).state) }
+        ensures lines { OnOk result (lines.new.items ≡ lines.old.items ++ (called step self.old task call.now).lines) }
+    {
+        let outcome = base_call(&mut self.base, task, call);
+        self.take_answer(task, call, outcome);
+        push_call_line(lines, step, task, call.name(), outcome)
+    }
+}

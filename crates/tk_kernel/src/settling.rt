@@ -1,0 +1,142 @@
+//! What follows each event: settling, the lines of the waits that ended, and the dispatch.
+
+ghost use Rattle.std.specs.Prelude.{◌≡◌, ◌++◌, OnOk};
+ghost use Rattle.tk_types.specs.declared.call_name.CallName.{CallName};
+ghost use Rattle.kernel_model.specs.Priority.{current_of, refresh, resettle};
+ghost use Rattle.kernel_model.specs.Settle.{dispatched, follow_release, followed, release_line, settle, with_releases};
+
+use crate::kernel::Kernel;
+use kernel_base::{Base, Release};
+use std::alloc::AllocError;
+use task_machine::{call_before, give};
+use tk_types::{CallName, Line, Script};
+
+/// The current priority of a task by definition.
+fn current_of(base: &Base, task: u8) -> u8
+    ensures { result ≡ current_of base.now task }
+{
+    base.base_of(task)
+}
+
+/// A task whose current priority isn't that of its definition takes that one, with a new stamp.
+fn refresh(base: &mut Base, task: u8)
+    ensures { base.new ≡ refresh base.old task }
+{
+    let priority = current_of(base, task);
+    if base.current(task) != priority {
+        base.set_current(task, priority);
+    }
+}
+
+/// Each changed current priority is taken over, in rising ID.
+#[tactic(auto, unfolding(kernel_model::specs::Priority::resettle))]
+fn resettle(base: &mut Base)
+    ensures { base.new ≡ resettle base.old }
+{
+    'tasks: for id in 1..256usize {
+        let task = id as u8;
+        if base.exists(task) {
+            refresh(base, task);
+        }
+    }
+}
+
+/// Adds the line of a wait that ended, where its call is known.
+fn push_release_line(
+    lines: &mut Vec<Line>,
+    step: u32,
+    ended: Release,
+    call: Option<CallName>,
+) -> Result<(), AllocError>
+    ensures { OnOk result (lines.new.items ≡ lines.old.items ++ release_line step ended call) }
+{
+    let Release { task, answer } = ended;
+    match call {
+        None => Ok(()),
+        Some(call) => {
+            lines.push(Line::Released {
+                step,
+                task,
+                call,
+                answer,
+            })?;
+            Ok(())
+        }
+    }
+}
+
+impl Kernel {
+    /// Settling: changed priorities are taken over.
+    pub(crate) fn settle(&mut self)
+        ensures { self.new ≡ settle self.old }
+    {
+        resettle(&mut self.base);
+    }
+
+    /// A wait that ended has its line, and its answer goes into the registers of its task.
+    #[tactic(auto, unfolding(kernel_model::specs::Settle::follow_release))]
+    fn follow_release(
+        &mut self,
+        script: &Script,
+        step: u32,
+        ended: Release,
+        lines: &mut Vec<Line>,
+    ) -> Result<(), AllocError>
+        ensures state { OnOk result (self.new ≡ (follow_release script.now step self.old ended).state) }
+        ensures lines { OnOk result (lines.new.items ≡ lines.old.items ++ (follow_release script.now step self.old ended).lines) }
+    {
+        let mut frame = self.frame(ended.task);
+        let call = call_before(script, &frame);
+        give(&mut frame, &ended.answer);
+        self.set_frame(ended.task, frame);
+        push_release_line(lines, step, ended, call)
+    }
+
+    /// The waits that ended are followed in order, and none is left to take.
+    #[tactic(auto, unfolding(kernel_model::specs::Settle::with_releases))]
+    fn follow_releases(
+        &mut self,
+        script: &Script,
+        step: u32,
+        lines: &mut Vec<Line>,
+    ) -> Result<(), AllocError>
+        ensures state { OnOk result (self.new ≡ (with_releases script.now step self.old).state) }
+        ensures lines { OnOk result (lines.new.items ≡ lines.old.items ++ (with_releases script.now step self.old).lines) }
+    {
+        'releases: while let Some(ended) = self.base.next_release() {
+            self.follow_release(script, step, ended, lines)?;
+        }
+        Ok(())
+    }
+
+    /// Dispatching, with a line where the chosen task isn't the current one.
+    #[tactic(auto, unfolding(kernel_model::specs::Settle::dispatched))]
+    pub(crate) fn dispatch(&mut self, step: u32, lines: &mut Vec<Line>) -> Result<(), AllocError>
+        ensures state { OnOk result (self.new ≡ (dispatched step self.old).state) }
+        ensures lines { OnOk result (lines.new.items ≡ lines.old.items ++ (dispatched step self.old).lines) }
+    {
+        let task = self.base.chosen();
+        if self.base.is_current(task) {
+            return Ok(());
+        }
+        self.base.dispatch();
+        lines.push(Line::Dispatch { step, task })?;
+        Ok(())
+    }
+
+    /// What follows an event: settling, the waits that ended, the dispatch.
+    #[tactic(auto, unfolding(kernel_model::specs::Settle::followed))]
+    pub(crate) fn follow(
+        &mut self,
+        script: &Script,
+        step: u32,
+        lines: &mut Vec<Line>,
+    ) -> Result<(), AllocError>
+        ensures state { OnOk result (self.new ≡ (followed script.now step self.old).state) }
+        ensures lines { OnOk result (lines.new.items ≡ lines.old.items ++ (followed script.now step self.old).lines) }
+    {
+        self.settle();
+        self.follow_releases(script, step, lines)?;
+        self.dispatch(step, lines)
+    }
+}
