@@ -1,0 +1,8 @@
+use Rattle.std.proofs.Common.{rules, not, ◌==◌}
+use Rattle.std.proofs.lemmas.Fn.{filter_same}
+use Rattle.tk_types.specs.declared.task.DueEvent.{DueEvent}
+use Rattle.time_queue.proofs.due.take_out_key.Goals as goal
+
+pub returns-clause-left : goal.returns-clause-left
+returns-clause-left c =
+    filter_same _ (λ (event : DueEvent). not (event.key == c.args.key)) _ (λ event b after call. search rules) _ _ c.retain.ensures.filtered
