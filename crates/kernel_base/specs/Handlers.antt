@@ -1,5 +1,5 @@
 -- Handlers that are set for a time.
-use Rattle.std.specs.Prelude.{ℕ, Bool, false, ◌==◌, ◌&&◌, nat_le, List}
+use Rattle.std.specs.Prelude.{Bool, false, ◌==◌, ◌&&◌, nat_le, List}
 use Rattle.std.specs.List.{list_any}
 use Rattle.tk_types.specs.declared.task.Event.{Event}
 use Rattle.tk_types.specs.declared.task.Event.TheVariants.{Wait, Cyclic, Alarm}

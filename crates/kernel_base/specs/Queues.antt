@@ -1,5 +1,5 @@
 -- Who stands behind whom.
-use Rattle.std.specs.Prelude.{ℕ, ◌==◌, not, if◌then◌else◌, List, [], ◌∷◌, Option, Some, None, filter, slice_get}
+use Rattle.std.specs.Prelude.{ℕ, ◌==◌, if◌then◌else◌, List, [], ◌∷◌, Option, filter, slice_get}
 use Rattle.kernel_model.specs.Base.{Base, current, is_ready_with}
 
 -- the IDs that stand behind one in an order

@@ -1,20 +1,25 @@
 -- Why no move takes memory: lists of the base hold each task at most once, and their room was taken at the start.
-use Rattle.std.specs.Prelude.{ℕ, zero, ◌≡◌, ◌+◌, ◌≤◌, ◌<◌, ◌==◌, if◌then◌else◌, List, [], ◌∷◌, Option, map, length}
+use Rattle.std.specs.Prelude.{ℕ, ◌≡◌, ◌+◌, ◌≤◌, List, Option, map, length}
 use Rattle.tk_types.specs.declared.task.Task.{Task}
 use Rattle.tk_types.specs.declared.task.Event.{Event}
 use Rattle.tk_types.specs.declared.task.Event.TheVariants.{Wait, Cyclic, Alarm}
 use Rattle.tk_types.specs.declared.task.DueEvent.{DueEvent}
 use Rattle.tk_types.specs.declared.task.Release.{Release}
-use Rattle.kernel_model.specs.Once.{IsOnce}
+use Rattle.kernel_model.specs.Once.{AreBelow, IsOnce}
 
 -- an order of task IDs
 pub record IsOrder (ids : List ℕ) (capacity : ℕ) : Type 0 where
   pub once : IsOnce ids
+  pub below : AreBelow 256 ids
   pub room : 256 ≤ capacity
+
+abbrev pub tasks_of : List Release → List ℕ
+tasks_of releases = map (λ release. release.task) releases
 
 -- the ends of waits that weren't taken yet, one for each task at most
 pub record AreReleases (releases : List Release) (capacity : ℕ) : Type 0 where
-  pub once : IsOnce (map (λ release. release.task) releases)
+  pub once : IsOnce (tasks_of releases)
+  pub below : AreBelow 256 (tasks_of releases)
   pub room : 256 ≤ capacity
 
 -- a number for each event that there can be
@@ -34,4 +39,5 @@ numbers_of events = map (λ event. number_of event.what) events
 pub record IsBase (tasks : List (Option Task)) (events : List DueEvent) (most : ℕ) : Type 0 where
   pub slots : length tasks ≡ 256
   pub once : IsOnce (numbers_of events)
+  pub below : AreBelow most_events (numbers_of events)
   pub room : most ≡ most_events

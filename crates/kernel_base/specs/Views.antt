@@ -1,5 +1,5 @@
 -- What a task shows of itself, in one record.
-use Rattle.std.specs.Prelude.{ℕ, ◌==◌, Option, Some, None, position}
+use Rattle.std.specs.Prelude.{ℕ, ◌==◌, Option, position}
 use Rattle.std.specs.Option.{option_map}
 use Rattle.tk_types.specs.declared.task.Task.{Task}
 use Rattle.kernel_model.specs.Base.{Base, task_at}

@@ -60,6 +60,13 @@ fn is_suspended(row: Task) -> bool
     row.suspensions != 0
 }
 
+/// The place of an ID in an order.
+fn place_of(ids: &[u8], id: u8) -> Option<usize>
+    ensures { result ≡ position (λ other. other == id) ids.now }
+{
+    ids.iter().position(|other| *other == id)
+}
+
 impl Base {
     /// The state of a task by its number.
     pub fn state_of(&self, task: u8, row: Task) -> u8
@@ -72,12 +79,7 @@ impl Base {
     fn place_since(&self, task: u8) -> Option<u64>
         ensures { result ≡ position (λ other. other == task) self.now.since }
     {
-        match self
-            .since
-            .as_slice()
-            .iter()
-            .position(|other| *other == task)
-        {
+        match place_of(self.since.as_slice(), task) {
             None => None,
             Some(place) => Some(place as u64),
         }

@@ -4,7 +4,7 @@ use Rattle.std.specs.Bool.{◌==◌}
 use Rattle.std.proofs.lemmas.Bool.Decides.{nat_tests}
 use Rattle.std.specs.Prelude.{filter}
 use Rattle.kernel_model.specs.Orders.{without, to_back}
-use Rattle.kernel_model.specs.Once.{times, IsOnce}
+use Rattle.kernel_model.specs.Once.{times, IsOnce, AreBelow}
 
 pub times_append : (n : ℕ) (xs ys : List ℕ) → times n (xs ++ ys) ≡ times n xs + times n ys
 times_append n [] ys = omega arith
@@ -48,11 +48,6 @@ once_behind id xs none once = λ n. rw (times_append n xs (id ∷ [])) (back_if 
 
 pub once_back : (id : ℕ) (xs : List ℕ) → IsOnce xs → IsOnce (to_back id xs)
 once_back id xs once = once_behind id (without id xs) (times_without id xs) (once_filter _ xs once)
-
--- each number of a list is below one
-abbrev pub AreBelow : ℕ → List ℕ → Type 0
-AreBelow limit [] = Unit {0}
-AreBelow limit (x ∷ xs) = (x < limit) × AreBelow limit xs
 
 length_if : (n x : ℕ) (b : Bool) (kept xs : List ℕ) → (x == n) ≡ b → length xs ≡ length kept + times n xs → suc (length xs) ≡ length (cond (not b) (x ∷ kept) kept) + (cond b 1 0 + times n xs)
 length_if n x true kept xs is rest = omega arith

@@ -3,7 +3,7 @@ use Rattle.std.proofs.lemmas.Bool.Decides.{nat_tests}
 use Rattle.std.specs.Bool.{◌==◌}
 use Rattle.std.proofs.lemmas.List.Filters.{FiltersInPlace-more_set, FiltersInPlace-more_no}
 use Rattle.kernel_base.proofs.releases.take_out.Goals as goal
-use Rattle.kernel_base.proofs.releases.take_out.Goals.{then-other-id, else-other-id}
+use Rattle.kernel_base.proofs.releases.take_out.Goals.{then-other-task, else-other-task}
 
 kept : (other id : ℕ) → (other ≡ id → ⊥) → not (other == id) ≡ true
 kept other id differs = grind (arith, nat_tests)
@@ -13,7 +13,7 @@ left_out other id same = grind (arith, nat_tests)
 
 pub places-preserved : goal.places-preserved
 places-preserved c =
-    elim c.if-other-id.branch [
-      | then-other-id w ↦ rw (w.list-is, w.kept-is) (FiltersInPlace-more_set c.places.invariant (omega arith) (kept _ _ w.if-other-id.true) c.index-other.ensures)
-      | else-other-id w ↦ rw (w.list-is, w.kept-is) (FiltersInPlace-more_no c.places.invariant (omega arith) (left_out _ _ w.if-other-id.false) c.index-other.ensures)
+    elim c.if-other-task.branch [
+      | then-other-task w ↦ rw (w.list-is, w.kept-is) (FiltersInPlace-more_set c.places.invariant (omega arith) (kept _ _ w.if-other-task.true) c.index-other.ensures)
+      | else-other-task w ↦ rw (w.list-is, w.kept-is) (FiltersInPlace-more_no c.places.invariant (omega arith) (left_out _ _ w.if-other-task.false) c.index-other.ensures)
     ]

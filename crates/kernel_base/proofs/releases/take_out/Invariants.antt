@@ -4,4 +4,4 @@ use Rattle.kernel_base.proofs.releases.take_out.Given as goal
 
 -- what stands before `kept` is what was passed, without the ID
 abbrev pub invariant-places : goal.invariant-places
-invariant-places l = FiltersInPlace (λ other. not (other == l.id)) l.fn.list.items l.list.items l.kept l.place
+invariant-places l = FiltersInPlace (λ other. not (other.task == l.task)) l.fn.list.items l.list.items l.kept l.place

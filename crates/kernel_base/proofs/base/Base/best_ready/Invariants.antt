@@ -1,7 +1,7 @@
 use Rattle.std.proofs.Common.{◌≡◌, None, drop}
 use Rattle.kernel_model.specs.Base.{is_ready, current}
 use Rattle.kernel_model.specs.Choice.{best_of}
-use Rattle.kernel_base.proofs.reading.Base.best_ready.Given as goal
+use Rattle.kernel_base.proofs.base.Base.best_ready.Given as goal
 
 -- the best of what is left, from the best so far, is the best of all
 abbrev pub invariant-tasks : goal.invariant-tasks
