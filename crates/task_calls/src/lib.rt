@@ -37,7 +37,9 @@ pub fn call(base: &mut Base, who: Who, call: &TaskCall) -> Outcome
         TaskCall::ExtTsk => ending::exit_task(base, who),
         TaskCall::ExdTsk => ending::exit_task(base, who),
         TaskCall::TerTsk { task } => ending::terminate_task(base, who, task),
-        TaskCall::ChgPri { task, priority } => priorities::change_priority(base, who, task, priority),
+        TaskCall::ChgPri { task, priority } => priorities::change_priority(
+            base, who, task, priority,
+        ),
         TaskCall::RotRdq { priority } => priorities::rotate_ready(base, priority),
         TaskCall::GetTid => asking::get_task(base),
         TaskCall::RefTsk { task } => asking::refer_task(base, who, task),
