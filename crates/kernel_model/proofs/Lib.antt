@@ -1,3 +1,4 @@
 pub mod Choice
 pub mod Precedence
 pub mod Once
+pub mod Counts
