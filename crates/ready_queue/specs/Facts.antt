@@ -2,11 +2,11 @@
 use Rattle.std.specs.Prelude.{ℕ, ◌<◌, ◌≤◌, List, [], ◌∷◌, nat_eq}
 use Rattle.std.specs.List.{IsDistinct, AllByRecursion}
 use Rattle.ready_queue.specs.declared.places.ReadyTask.{ReadyTask}
-use Rattle.ready_queue.specs.Queue.{tasks_of}
+use Rattle.ready_queue.specs.Queue.{tasks_of, priorities_of}
 
--- each of these priority numbers is at least this one
+-- the priority of each of these places is at least this number
 abbrev pub AllFrom : ℕ → List ReadyTask → Type 0
-AllFrom priority list = AllByRecursion (λ place. priority ≤ place.priority) list
+AllFrom priority list = AllByRecursion (λ other. priority ≤ other) (priorities_of list)
 
 -- the priority numbers rise along the list, or stay equal
 abbrev pub IsRising : List ReadyTask → Type 0

@@ -7,6 +7,10 @@ use Rattle.ready_queue.specs.declared.places.ReadyTask.{ReadyTask}
 abbrev pub tasks_of : List ReadyTask → List ℕ
 tasks_of list = map (λ place. place.task) list
 
+-- their priorities
+abbrev pub priorities_of : List ReadyTask → List ℕ
+priorities_of list = map (λ place. place.priority) list
+
 abbrev pub is_of_task : ℕ → ReadyTask → Bool
 is_of_task task place = place.task == task
 
@@ -57,3 +61,8 @@ next_equal place rest = first_task (places_of place.priority rest)
 abbrev pub next_task : ℕ → List ReadyTask → Option ℕ
 next_task task [] = None
 next_task task (first ∷ rest) = if is_of_task task first then next_equal first rest else next_task task rest
+
+-- the task in front of these places, where it has the priority of the place
+abbrev pub equal_in_front : ReadyTask → List ReadyTask → Option ℕ
+equal_in_front place [] = None
+equal_in_front place (next ∷ rest) = if is_of_priority place.priority next then Some next.task else None

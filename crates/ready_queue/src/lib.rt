@@ -1,7 +1,7 @@
 //! The ready tasks in the order in which they run.
 #![tactic(auto)]
 
-mod laws;
+pub mod laws;
 mod places;
 mod queue;
 #[cfg(test)]

@@ -11,7 +11,7 @@ ghost use Rattle.ready_queue.specs.Queue.{
   without_task,
 };
 
-use crate::places::{ReadyTask, Sought, first_place, put};
+use crate::places::{ReadyTask, Sought, equal_in_front, first_place, index_of, put};
 use std::alloc::{AllocError, Global};
 use std::marker::Model;
 use std::sync::ledger::Ledger;
@@ -105,8 +105,10 @@ impl Ready {
     pub fn first_of(&self, pri: u8) -> Option<u8>
         ensures { result ≡ first_task (places_of pri self.now) }
     {
-        let place = self.places.iter().find(|place| place.priority == pri)?;
-        Some(place.task)
+        match index_of(self.places.as_slice(), Sought::Priority(pri)) {
+            None => None,
+            Some(index) => Some(self.places[index].task),
+        }
     }
 
     /// The first task behind a ready one among those of its priority, if there is one.
@@ -114,13 +116,10 @@ impl Ready {
         requires { holds_task task self.now ≡ true }
         ensures { result ≡ next_task task self.now }
     {
-        let index = self.places.iter().position(|place| place.task == task)?;
-        let place = self.places[index];
-        if index + 1 == self.places.len() {
-            return None;
+        match index_of(self.places.as_slice(), Sought::Task(task)) {
+            None => None,
+            Some(index) => equal_in_front(self.places[index], &self.places[index + 1..]),
         }
-        let next = self.places[index + 1];
-        if next.priority == place.priority { Some(next.task) } else { None }
     }
 
     /// Whether a task is ready.
