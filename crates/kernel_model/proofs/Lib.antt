@@ -1,3 +1,10 @@
 pub mod Choice
 pub mod Precedence
 pub mod Once
+pub mod Tables
+pub mod Places
+pub mod Checked
+pub mod Moves
+pub mod Preemption
+pub mod Releases
+pub mod Latest

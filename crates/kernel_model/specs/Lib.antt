@@ -7,8 +7,8 @@ pub mod Base
 pub mod Views
 pub mod Marks
 pub mod Priority
-pub mod Precedence
 pub mod TaskCalls
+pub mod Precedence
 pub mod Statements
 pub mod State
 pub mod Settle
