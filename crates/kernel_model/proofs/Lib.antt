@@ -8,3 +8,6 @@ pub mod Moves
 pub mod Preemption
 pub mod Releases
 pub mod Latest
+pub mod TimeOuts
+pub mod Ticks
+pub mod Refusals

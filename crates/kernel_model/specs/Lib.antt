@@ -9,6 +9,7 @@ pub mod Marks
 pub mod Priority
 pub mod TaskCalls
 pub mod Precedence
+pub mod TimeOrder
 pub mod Statements
 pub mod State
 pub mod Settle

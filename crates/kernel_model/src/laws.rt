@@ -1,14 +1,24 @@
 //! Laws of the definitions, each the contract of a function that does nothing.
 
-ghost use Rattle.std.specs.Prelude.{◌≡◌, ℕ, Bool, false, true, ◌<◌, Some};
+ghost use Rattle.std.specs.Prelude.{◌≡◌, ℕ, ◌+◌, ◌<◌, ◌≤◌, Bool, false, true, pos, List, ◌∷◌, ◌++◌, None, Some};
+ghost use Rattle.std.specs.Int.{is_negative};
 ghost use Rattle.tk_types.specs.declared.answer.Answer.{Answer};
+ghost use Rattle.tk_types.specs.declared.answer.Outcome.TheVariants.{Returned};
+ghost use Rattle.tk_types.specs.declared.answer.Who.{Who};
 ghost use Rattle.tk_types.specs.declared.answer.Who.TheVariants as whos;
 ghost use Rattle.tk_types.specs.declared.calls.TaskCall.{TaskCall};
+ghost use Rattle.tk_types.specs.declared.task.DueEvent.{DueEvent};
+ghost use Rattle.tk_types.specs.declared.task.Event.TheVariants.{Wait};
+ghost use Rattle.tk_types.specs.declared.task.Order.{Order};
 ghost use Rattle.tk_types.specs.declared.task.Phase.TheVariants.{Ready};
 ghost use Rattle.tk_types.specs.declared.task.Task.{Task};
-ghost use Rattle.kernel_model.specs.Base.{Base, chosen, current, dispatch, is_ready, is_waiting_phase, make_ready, release, resume, suspensions_of, task_at};
+ghost use Rattle.kernel_model.specs.Base.{Base, chosen, current, dispatch, is_ready, is_waiting_phase, make_ready, make_wait, release, resume, suspensions_of, task_at};
+ghost use Rattle.kernel_model.specs.Events.{due_event, insert_event, limit_of};
 ghost use Rattle.kernel_model.specs.Precedence.{KeepsPlace, NoneReady, Precedes, StandsLast, gives_place_away};
+ghost use Rattle.kernel_model.specs.State.{State};
 ghost use Rattle.kernel_model.specs.TaskCalls.{task_call};
+ghost use Rattle.kernel_model.specs.Ticks.{tick_state};
+ghost use Rattle.kernel_model.specs.TimeOrder.{AreDueBy, AreInTimeOrder, AreLater, after_time};
 
 /// Dispatching chooses the ready task of the highest priority, and of equals the one whose stamp is the
 /// earliest; where no task is ready it chooses none.
@@ -40,4 +50,32 @@ pub fn released_task_stands_last()
         is_waiting_phase k.phase ≡ true → k.suspensions ≡ 0 → StandsLast (release b t result) t }
     ensures resumed { (b : Base) (t : ℕ) (k : Task) (all : Bool) → task_at b t ≡ Some k → k.phase ≡ Ready →
         0 < k.suspensions → suspensions_of (resume b t all) t ≡ 0 → StandsLast (resume b t all) t }
+{}
+
+/// A time-out falls due in its tick: a wait with a limit of n milliseconds that begins at a time is set for that time
+/// and n + 1. While no more than n have passed it isn't what is due; with one more it is, where nothing else comes
+/// first. Nothing is due while all that is set is later, and the first is once its time has come; what is set takes its
+/// place behind all that falls due by its time, so that of equals the one made first comes first; and a tick leaves
+/// nothing that falls due by the time that it makes.
+pub fn time_outs_fall_due_in_their_tick()
+    ensures limit { (b : Base) (t object : ℕ) (order : Order) (n : ℕ) (k : Task) → task_at b t ≡ Some k →
+        limit_of t (make_wait b t object order (pos n)).events ≡ Some (b.time + n + 1) }
+    ensures goes_on { (b : Base) (t object : ℕ) (order : Order) (n passed : ℕ) (k : Task) → task_at b t ≡ Some k → passed ≤ n →
+        let later = after_time passed (make_wait b t object order (pos n)) in
+        due_event later.time later.events ≡ Some (Wait t) → ⊥ }
+    ensures ends { (b : Base) (t object : ℕ) (order : Order) (n : ℕ) (k : Task) → task_at b t ≡ Some k → AreLater (b.time + n + 1) b.events →
+        let later = after_time (n + 1) (make_wait b t object order (pos n)) in
+        due_event later.time later.events ≡ Some (Wait t) }
+    ensures none { (now : ℕ) (events : List DueEvent) → AreLater now events → due_event now events ≡ None }
+    ensures first { (now : ℕ) (first : DueEvent) (rest : List DueEvent) → first.time ≤ now → due_event now (first ∷ rest) ≡ Some first.what }
+    ensures set_behind { (event : DueEvent) (front behind : List DueEvent) → AreDueBy event.time front → AreLater event.time behind →
+        insert_event event (front ++ behind) ≡ front ++ event ∷ behind }
+    ensures tick { (st : State) → AreInTimeOrder st.base.events → AreLater (st.base.time + 1) (tick_state st).base.events }
+{}
+
+/// A call on tasks that is refused changes nothing: where a call answers a negative value, which is an error, all that
+/// the kernel keeps is as it was.
+pub fn a_call_that_is_refused_changes_nothing()
+    ensures { (b : Base) (who : Who) (call : TaskCall) (answer : Answer) → (task_call b who call).outcome ≡ Returned answer →
+        is_negative answer.value ≡ true → (task_call b who call).base ≡ b }
 {}
