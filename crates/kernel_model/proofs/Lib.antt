@@ -1,3 +1,5 @@
 pub mod Choice
 pub mod Precedence
 pub mod Once
+pub mod Sorting
+pub mod ReadyLists
