@@ -1,6 +1,8 @@
 pub mod Choice
 pub mod Precedence
 pub mod Once
+pub mod Sorting
+pub mod ReadyLists
 pub mod Tables
 pub mod Places
 pub mod Checked

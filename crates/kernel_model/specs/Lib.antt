@@ -1,6 +1,7 @@
 pub mod Orders
 pub mod Choice
 pub mod Once
+pub mod Rising
 pub mod Events
 pub mod Checks
 pub mod Base

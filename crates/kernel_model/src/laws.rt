@@ -1,6 +1,6 @@
 //! Laws of the definitions, each the contract of a function that does nothing.
 
-ghost use Rattle.std.specs.Prelude.{◌≡◌, ℕ, ◌+◌, ◌<◌, ◌≤◌, Bool, false, true, pos, List, ◌∷◌, ◌++◌, None, Some};
+ghost use Rattle.std.specs.Prelude.{◌≡◌, ℕ, ◌+◌, ◌<◌, ◌≤◌, ◌==◌, if◌then◌else◌, filter, Bool, false, true, pos, List, ◌∷◌, ◌++◌, None, Some};
 ghost use Rattle.std.specs.Int.{is_negative};
 ghost use Rattle.tk_types.specs.declared.answer.Answer.{Answer};
 ghost use Rattle.tk_types.specs.declared.answer.Outcome.TheVariants.{Returned};
@@ -12,9 +12,11 @@ ghost use Rattle.tk_types.specs.declared.task.Event.TheVariants.{Wait};
 ghost use Rattle.tk_types.specs.declared.task.Order.{Order};
 ghost use Rattle.tk_types.specs.declared.task.Phase.TheVariants.{Ready};
 ghost use Rattle.tk_types.specs.declared.task.Task.{Task};
-ghost use Rattle.kernel_model.specs.Base.{Base, chosen, current, dispatch, is_ready, is_waiting_phase, make_ready, make_wait, release, resume, suspensions_of, task_at};
+ghost use Rattle.kernel_model.specs.Base.{Base, chosen, current, dispatch, is_ready, is_waiting_phase, make_ready, make_wait, ready_list, ready_of, release, resume, suspensions_of, task_at};
 ghost use Rattle.kernel_model.specs.Events.{due_event, insert_event, limit_of};
+ghost use Rattle.kernel_model.specs.Once.{IsOnce, times};
 ghost use Rattle.kernel_model.specs.Precedence.{KeepsPlace, NoneReady, Precedes, StandsLast, gives_place_away};
+ghost use Rattle.kernel_model.specs.Rising.{IsRisingBy};
 ghost use Rattle.kernel_model.specs.State.{State};
 ghost use Rattle.kernel_model.specs.TaskCalls.{task_call};
 ghost use Rattle.kernel_model.specs.Ticks.{tick_state};
@@ -25,6 +27,15 @@ ghost use Rattle.kernel_model.specs.TimeOrder.{AreDueBy, AreInTimeOrder, AreLate
 pub fn dispatch_chooses_the_first()
     ensures first { (b : Base) (t : ℕ) → Precedes b t → chosen b ≡ t }
     ensures none { (b : Base) → NoneReady (is_ready b) b.order → chosen b ≡ 0 }
+{}
+
+/// The list of the ready tasks is in rising order of their priorities; each task of the order that is ready stands in it
+/// as often as there, which is once, and no other does; and those of one priority stand in the order of their stamps.
+pub fn the_ready_list_is_in_order()
+    ensures rising { (b : Base) → IsRisingBy (current b) (ready_list b) }
+    ensures stands { (b : Base) (t : ℕ) → times t (ready_list b) ≡ (if is_ready b t then times t b.order else 0) }
+    ensures once { (b : Base) → IsOnce b.order → IsOnce (ready_list b) }
+    ensures equals { (b : Base) (priority : ℕ) → filter (λ t. current b t == priority) (ready_list b) ≡ ready_of b priority }
 {}
 
 /// A task that is preempted keeps its place: a task that makes a call and stays ready, with the priority that it
