@@ -13,3 +13,5 @@ pub mod Latest
 pub mod TimeOuts
 pub mod Ticks
 pub mod Refusals
+pub mod Filters
+pub mod Queues

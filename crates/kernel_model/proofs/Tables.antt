@@ -47,3 +47,8 @@ entry_cases P (Some k) b f same moved = moved k refl
 -- a move on a task that exists is that on its row
 pub entry_at : (P : Base → Type 0) (o : Option Task) (k : Task) (b : Base) (f : Task → Base) → o ≡ Some k → P (f k) → P (with_entry o b f)
 entry_at P o k b f at moved = subst (λ (q : Option Task). P (with_entry q b f)) (sym at) moved
+
+-- the same, where what holds of a task that doesn't exist rests on that
+pub entry_split : (P : Base → Type 0) (o : Option Task) (b : Base) (f : Task → Base) → (o ≡ None → P b) → ((k : Task) → o ≡ Some k → P (f k)) → P (with_entry o b f)
+entry_split P None b f same moved = same refl
+entry_split P (Some k) b f same moved = moved k refl

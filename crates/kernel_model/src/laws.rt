@@ -12,15 +12,17 @@ ghost use Rattle.tk_types.specs.declared.task.Event.TheVariants.{Wait};
 ghost use Rattle.tk_types.specs.declared.task.Order.{Order};
 ghost use Rattle.tk_types.specs.declared.task.Phase.TheVariants.{Ready};
 ghost use Rattle.tk_types.specs.declared.task.Task.{Task};
-ghost use Rattle.kernel_model.specs.Base.{Base, chosen, current, dispatch, is_ready, is_waiting_phase, make_ready, make_wait, ready_list, ready_of, release, resume, suspensions_of, task_at};
+ghost use Rattle.kernel_model.specs.Base.{Base, chosen, current, dispatch, is_ready, is_waiting, is_waiting_phase, make_ready, make_wait, queue, ready_list, ready_of, release, resume, suspensions_of, task_at};
 ghost use Rattle.kernel_model.specs.Events.{due_event, insert_event, limit_of};
 ghost use Rattle.kernel_model.specs.Once.{IsOnce, times};
+ghost use Rattle.kernel_model.specs.Orders.{without};
 ghost use Rattle.kernel_model.specs.Precedence.{KeepsPlace, NoneReady, Precedes, StandsLast, gives_place_away};
 ghost use Rattle.kernel_model.specs.Rising.{IsRisingBy};
 ghost use Rattle.kernel_model.specs.State.{State};
 ghost use Rattle.kernel_model.specs.TaskCalls.{task_call};
 ghost use Rattle.kernel_model.specs.Ticks.{tick_state};
 ghost use Rattle.kernel_model.specs.TimeOrder.{AreDueBy, AreInTimeOrder, AreLater, after_time};
+ghost use Rattle.kernel_model.specs.Waiters.{waiting_count};
 
 /// Dispatching chooses the ready task of the highest priority, and of equals the one whose stamp is the
 /// earliest; where no task is ready it chooses none.
@@ -89,4 +91,13 @@ pub fn time_outs_fall_due_in_their_tick()
 pub fn a_call_that_is_refused_changes_nothing()
     ensures { (b : Base) (who : Who) (call : TaskCall) (answer : Answer) → (task_call b who call).outcome ≡ Returned answer →
         is_negative answer.value ≡ true → (task_call b who call).base ≡ b }
+{}
+
+/// A release ends one wait: it leaves every other task's row as it was, the task no longer waits, one task fewer waits
+/// than before, and in every queue the others stand as they stood.
+pub fn a_release_ends_one_wait()
+    ensures others { (b : Base) (t u : ℕ) (result : Answer) → (u ≡ t → ⊥) → task_at (release b t result) u ≡ task_at b u }
+    ensures over { (b : Base) (t : ℕ) (result : Answer) → is_waiting (release b t result) t ≡ false }
+    ensures one { (b : Base) (t : ℕ) (result : Answer) → is_waiting b t ≡ true → waiting_count b ≡ waiting_count (release b t result) + 1 }
+    ensures queues { (order : Order) (b : Base) (t object : ℕ) (result : Answer) → queue order (release b t result) object ≡ without t (queue order b object) }
 {}
