@@ -15,3 +15,4 @@ pub mod Ticks
 pub mod Refusals
 pub mod Filters
 pub mod Queues
+pub mod TickEnds

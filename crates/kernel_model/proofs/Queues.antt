@@ -13,7 +13,7 @@ use Rattle.kernel_model.specs.Orders.{entry, without, to_back, insert_behind, so
 use Rattle.kernel_model.specs.Base.{Base, task_at, is_ready, is_ready_phase, is_waiting_phase, may_run, current, current_in, waits_in, waiting_in, waits_for, fifo_queue, priority_queue, queue, with_task, drop_wait, recorded, make_wait, release, make_dormant, set_current}
 use Rattle.kernel_model.proofs.Sorting.{alike_filter, filter_sort, sort_alike, sort_behind}
 use Rattle.kernel_model.proofs.Filters.{AreSameBut, apart_of, filter_back, filter_gone, filter_fails, filter_absent, filter_alike}
-use Rattle.kernel_model.proofs.Tables.{entry_other, entry_same, entry_there, entry_each, entry_at, entry_cases, entry_split}
+use Rattle.kernel_model.proofs.Tables.{itself, entry_other, entry_same, entry_there, entry_each, entry_at, entry_cases, entry_split}
 
 -- ---- two bases that are the same but for one row
 
@@ -69,9 +69,6 @@ pub priority_absent : (b : Base) (t object : ℕ) → waits_for b object t ≡ f
 priority_absent b t object idle = filter_sort (λ u. not (u == t)) (current b) (filter (waits_for b object) b.order) ∙ ap (sort_by (current b)) (filter_absent (waits_for b object) t b.order idle)
 
 -- ---- the rows of the moves
-
-itself : (t : ℕ) → (t == t) ≡ true
-itself t = grind (arith, nat_tests)
 
 -- a row and the orders are written
 abbrev written : Base → ℕ → Option Task → List ℕ → List ℕ → Base

@@ -8,6 +8,10 @@ use Rattle.tk_types.specs.declared.task.Task.{Task}
 use Rattle.kernel_model.specs.Orders.{entry}
 use Rattle.kernel_model.specs.Base.{Base, with_entry}
 
+-- the test of a number against itself
+pub itself : (t : ℕ) → (t == t) ≡ true
+itself t = grind (arith, nat_tests)
+
 get_other : {A : Type 0} → (xs : List A) (i j : ℕ) (y : A) → (j ≡ i → ⊥) → slice_get (slice_set xs i y) j ≡ slice_get xs j
 get_other [] i j y apart = refl
 get_other (x ∷ xs) zero zero y apart = absurd (apart refl)

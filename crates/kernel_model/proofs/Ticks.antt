@@ -102,7 +102,7 @@ came_if true what now events some = refl
 came_if false what now events some = absurd (cc some)
 
 -- what is done next: nothing more, or the event, and then the rest
-abbrev next : ℕ → State → Option Event → State
+abbrev pub next : ℕ → State → Option Event → State
 next left st due =
     elim due as (λ _. State) [
       | None ↦ st

@@ -1,7 +1,6 @@
 -- A wait's time-out is set for one millisecond more than its limit, and falls due then.
 use Rattle.std.proofs.Common.{◌≡◌, ℕ, suc, zero, ◌+◌, ◌<◌, ◌≤◌, Bool, true, false, not, List, [], ◌∷◌, ◌++◌, Option, Some, None, refl, cond, ◌∙◌, ap, sym, pos, arith}
 use Rattle.std.specs.Prelude.{nat_lt, nat_le}
-use Rattle.std.specs.Bool.{◌==◌}
 use Rattle.std.specs.List.{find, filter}
 use Rattle.std.specs.Option.{option_map}
 use Rattle.std.proofs.lemmas.Bool.Decides.{nat_tests}
@@ -14,12 +13,9 @@ use Rattle.tk_types.specs.declared.task.DueEvent.{DueEvent}
 use Rattle.kernel_model.specs.Events.{insert_event, without_wait, is_wait_of, ends_wait_of, limit_of, due_event}
 use Rattle.kernel_model.specs.Base.{Base, task_at, make_wait}
 use Rattle.kernel_model.specs.TimeOrder.{AreLater, AreDueBy, after_time}
-use Rattle.kernel_model.proofs.Tables.{entry_at}
+use Rattle.kernel_model.proofs.Tables.{itself, entry_at}
 
 -- ---- the limit of a wait
-
-itself : (t : ℕ) → (t == t) ≡ true
-itself t = grind (arith, nat_tests)
 
 none_if : (event : DueEvent) (test : Bool) (found : Option DueEvent) → cond test (Some event) found ≡ None → (test ≡ false) × (found ≡ None)
 none_if event true found none = absurd (cc none)

@@ -17,6 +17,7 @@ ghost use Rattle.kernel_model.specs.Events.{due_event, insert_event, limit_of};
 ghost use Rattle.kernel_model.specs.Once.{IsOnce, times};
 ghost use Rattle.kernel_model.specs.Orders.{without};
 ghost use Rattle.kernel_model.specs.Precedence.{KeepsPlace, NoneReady, Precedes, StandsLast, gives_place_away};
+ghost use Rattle.kernel_model.specs.Priority.{current_of, resettle};
 ghost use Rattle.kernel_model.specs.Rising.{IsRisingBy};
 ghost use Rattle.kernel_model.specs.State.{State};
 ghost use Rattle.kernel_model.specs.TaskCalls.{task_call};
@@ -42,7 +43,8 @@ pub fn the_ready_list_is_in_order()
 
 /// A task that is preempted keeps its place: a task that makes a call and stays ready, with the priority that it
 /// has, stays the first of its equals, unless the call gives its place away by what it means. Neither a dispatch
-/// to another task nor the end of another one's wait, as in a tick, changes that.
+/// to another task, nor the end of another one's wait, nor what settling makes of others' priorities, nor a whole
+/// tick changes that.
 pub fn preempted_task_keeps_its_place()
     ensures call { (b : Base) (t : ℕ) (call : TaskCall) → KeepsPlace b t → is_ready b t ≡ true →
         gives_place_away t call ≡ false →
@@ -52,6 +54,10 @@ pub fn preempted_task_keeps_its_place()
     ensures dispatch { (b : Base) (t : ℕ) → KeepsPlace b t → KeepsPlace (dispatch b) t }
     ensures wait_ends { (b : Base) (t u : ℕ) (result : Answer) → KeepsPlace b t → is_ready b t ≡ true →
         KeepsPlace (release b u result) t }
+    ensures settled { (b : Base) (t : ℕ) → KeepsPlace b t → is_ready b t ≡ true → current b t ≡ current_of b t →
+        KeepsPlace (resettle b) t }
+    ensures tick { (st : State) (t : ℕ) → KeepsPlace st.base t → is_ready st.base t ≡ true →
+        current st.base t ≡ current_of st.base t → KeepsPlace (tick_state st).base t }
 {}
 
 /// A task that becomes ready takes the latest stamp, so that every other ready task of its priority stands before
@@ -67,9 +73,8 @@ pub fn released_task_stands_last()
 
 /// A time-out falls due in its tick: a wait with a limit of n milliseconds that begins at a time is set for that time
 /// and n + 1. While no more than n have passed it isn't what is due; with one more it is, where nothing else comes
-/// first. Nothing is due while all that is set is later, and the first is once its time has come; what is set takes its
-/// place behind all that falls due by its time, so that of equals the one made first comes first; and a tick leaves
-/// nothing that falls due by the time that it makes.
+/// first. A tick that makes an earlier time than that of a wait's end leaves it set, and its task waiting; one that
+/// makes that time ends the wait.
 pub fn time_outs_fall_due_in_their_tick()
     ensures limit { (b : Base) (t object : ℕ) (order : Order) (n : ℕ) (k : Task) → task_at b t ≡ Some k →
         limit_of t (make_wait b t object order (pos n)).events ≡ Some (b.time + n + 1) }
@@ -79,6 +84,18 @@ pub fn time_outs_fall_due_in_their_tick()
     ensures ends { (b : Base) (t object : ℕ) (order : Order) (n : ℕ) (k : Task) → task_at b t ≡ Some k → AreLater (b.time + n + 1) b.events →
         let later = after_time (n + 1) (make_wait b t object order (pos n)) in
         due_event later.time later.events ≡ Some (Wait t) }
+    ensures stays_set { (st : State) (t due : ℕ) → limit_of t st.base.events ≡ Some due → st.base.time + 1 < due →
+        limit_of t (tick_state st).base.events ≡ Some due }
+    ensures waits_on { (st : State) (t due : ℕ) → limit_of t st.base.events ≡ Some due → st.base.time + 1 < due →
+        is_waiting (tick_state st).base t ≡ is_waiting st.base t }
+    ensures is_over { (st : State) (t due : ℕ) → AreInTimeOrder st.base.events → limit_of t st.base.events ≡ Some due → due ≤ st.base.time + 1 →
+        is_waiting (tick_state st).base t ≡ false }
+{}
+
+/// What is set falls due in order: nothing is due while all that is set is later, and the first is once its time has
+/// come. What is set takes its place behind all that falls due by its time, so that of equals the one made first comes
+/// first. A tick leaves nothing that falls due by the time that it makes.
+pub fn events_fall_due_in_order()
     ensures none { (now : ℕ) (events : List DueEvent) → AreLater now events → due_event now events ≡ None }
     ensures first { (now : ℕ) (first : DueEvent) (rest : List DueEvent) → first.time ≤ now → due_event now (first ∷ rest) ≡ Some first.what }
     ensures set_behind { (event : DueEvent) (front behind : List DueEvent) → AreDueBy event.time front → AreLater event.time behind →

@@ -1,5 +1,5 @@
-use Rattle.kernel_model.proofs.TimeOuts.{limit_set, goes_on, ends_then, none_is_due, first_is_due, set_behind}
-use Rattle.kernel_model.proofs.Ticks.{tick_takes_all}
+use Rattle.kernel_model.proofs.TimeOuts.{limit_set, goes_on, ends_then}
+use Rattle.kernel_model.proofs.TickEnds.{tick_leaves_set, tick_leaves_waiting, tick_ends}
 use Rattle.kernel_model.proofs.laws.time_outs_fall_due_in_their_tick.Goals as goal
 
 pub returns-clause-limit : goal.returns-clause-limit
@@ -11,14 +11,11 @@ returns-clause-goes_on c = goes_on
 pub returns-clause-ends : goal.returns-clause-ends
 returns-clause-ends c = ends_then
 
-pub returns-clause-none : goal.returns-clause-none
-returns-clause-none c = none_is_due
+pub returns-clause-stays_set : goal.returns-clause-stays_set
+returns-clause-stays_set c = tick_leaves_set
 
-pub returns-clause-first : goal.returns-clause-first
-returns-clause-first c = first_is_due
+pub returns-clause-waits_on : goal.returns-clause-waits_on
+returns-clause-waits_on c = tick_leaves_waiting
 
-pub returns-clause-set_behind : goal.returns-clause-set_behind
-returns-clause-set_behind c = set_behind
-
-pub returns-clause-tick : goal.returns-clause-tick
-returns-clause-tick c = tick_takes_all
+pub returns-clause-is_over : goal.returns-clause-is_over
+returns-clause-is_over c = tick_ends
