@@ -16,3 +16,4 @@ pub mod Refusals
 pub mod Filters
 pub mod Queues
 pub mod TickEnds
+pub mod Lasting

@@ -28,14 +28,14 @@ use Rattle.kernel_model.proofs.Ticks.{next, tick_takes_all}
 -- ---- what holds through all that a tick does
 
 -- it holds after each event that was due and is done
-abbrev Step : (Base → Type 0) → Type 0
+abbrev pub Step : (Base → Type 0) → Type 0
 Step P = (st : State) (what : Event) → due_event st.base.time st.base.events ≡ Some what → P st.base → P (fallen (record st { base = take_due st.base }) what).base
 
 next_keeps : (P : Base → Type 0) (left : ℕ) (st : State) (due : Option Event) → Step P → ((later : State) → P later.base → P (due_done left later).base) → due_event st.base.time st.base.events ≡ due → P st.base → P (next left st due).base
 next_keeps P left st None step rest is has = has
 next_keeps P left st (Some what) step rest is has = rest (fallen (record st { base = take_due st.base }) what) (step st what is has)
 
-done_keeps : (P : Base → Type 0) → Step P → (left : ℕ) (st : State) → P st.base → P (due_done left st).base
+pub done_keeps : (P : Base → Type 0) → Step P → (left : ℕ) (st : State) → P st.base → P (due_done left st).base
 unfolding due_done
 done_keeps P step zero st has = has
 done_keeps P step (suc left) st has = next_keeps P left st (due_event st.base.time st.base.events) step (done_keeps P step left) refl has
@@ -45,7 +45,7 @@ refresh_if : (P : Base → Type 0) (b : Base) (t priority : ℕ) (same : Bool) �
 refresh_if P b t priority true has changed = has
 refresh_if P b t priority false has changed = changed refl
 
-abbrev Refreshed : (Base → Type 0) → Type 0
+abbrev pub Refreshed : (Base → Type 0) → Type 0
 Refreshed P = (b : Base) (t : ℕ) → (current b t == current_of b t) ≡ false → P b → P (set_current b t (current_of b t))
 
 each_keeps : (P : Base → Type 0) → Refreshed P → (ids : List ℕ) (b : Base) → P b → P (fold refresh b ids)
@@ -57,7 +57,7 @@ unfolding resettle
 resettle_keeps P step b has = each_keeps P step (taken_from 1 (drop 1 b.tasks)) b has
 
 -- after an event that is taken its task is released, and then priorities are taken over
-fallen_keeps : (P : Base → Type 0) → Refreshed P → (st : State) (what : Event) → (((u : ℕ) → what ≡ Wait u → ⊥) → P (take_due st.base)) → ((u : ℕ) → what ≡ Wait u → P (release (take_due st.base) u (limit_answer (take_due st.base) u))) → P (fallen (record st { base = take_due st.base }) what).base
+pub fallen_keeps : (P : Base → Type 0) → Refreshed P → (st : State) (what : Event) → (((u : ℕ) → what ≡ Wait u → ⊥) → P (take_due st.base)) → ((u : ℕ) → what ≡ Wait u → P (release (take_due st.base) u (limit_answer (take_due st.base) u))) → P (fallen (record st { base = take_due st.base }) what).base
 unfolding fallen
 fallen_keeps P step st (Wait u) taken released = resettle_keeps P step (release (take_due st.base) u (limit_answer (take_due st.base) u)) (released u refl)
 fallen_keeps P step st (Cyclic n) taken released = taken (λ u is. absurd (cc is))
@@ -128,10 +128,10 @@ set_time b u priority = entry_cases (λ c. c.time ≡ b.time) (task_at b u) b _ 
 -- ---- a wait whose time hasn't come
 
 -- the time is this one, the wait's end is set for that one, and the task waits or doesn't
-record IsSet (now t due : ℕ) (waits : Bool) (b : Base) : Type 0 where
-  at : b.time ≡ now
-  limit : limit_of t b.events ≡ Some due
-  still : is_waiting b t ≡ waits
+pub record IsSet (now t due : ℕ) (waits : Bool) (b : Base) : Type 0 where
+  pub at : b.time ≡ now
+  pub limit : limit_of t b.events ≡ Some due
+  pub still : is_waiting b t ≡ waits
 
 set_refreshed : (now t due : ℕ) (waits : Bool) → Refreshed (IsSet now t due waits)
 set_refreshed now t due waits b u changed has = record {
@@ -155,7 +155,7 @@ set_step now t due waits early st what is has =
       still = ap waits_somewhere (release_others b u t (limit_answer b u) (λ same. apart (sym same))) ∙ has.still;
     })
 
-after_tick : (st : State) (t due : ℕ) → limit_of t st.base.events ≡ Some due → st.base.time + 1 < due → IsSet (st.base.time + 1) t due (is_waiting st.base t) (tick_state st).base
+pub after_tick : (st : State) (t due : ℕ) → limit_of t st.base.events ≡ Some due → st.base.time + 1 < due → IsSet (st.base.time + 1) t due (is_waiting st.base t) (tick_state st).base
 after_tick st t due limit early =
     done_keeps (IsSet (st.base.time + 1) t due (is_waiting st.base t)) (set_step (st.base.time + 1) t due (is_waiting st.base t) early) (length st.base.events) (record st { base = record st.base { time = st.base.time + 1 } })
     (record { at = refl; limit = limit; still = refl })

@@ -20,10 +20,10 @@ use Rattle.kernel_model.proofs.Tables.{entry_cases}
 
 -- ---- lists of events
 
-pairs_head : (first : DueEvent) (rest : List DueEvent) → AreInTimeOrder (first ∷ rest) → All (λ event. first.time ≤ event.time) rest
+pub pairs_head : (first : DueEvent) (rest : List DueEvent) → AreInTimeOrder (first ∷ rest) → All (λ event. first.time ≤ event.time) rest
 pairs_head first rest pairs = λ k d within. pairs 0 (suc k) d (omega arith) (omega arith)
 
-pairs_tail : (first : DueEvent) (rest : List DueEvent) → AreInTimeOrder (first ∷ rest) → AreInTimeOrder rest
+pub pairs_tail : (first : DueEvent) (rest : List DueEvent) → AreInTimeOrder (first ∷ rest) → AreInTimeOrder rest
 pairs_tail first rest pairs = λ i j d before within. pairs (suc i) (suc j) d (omega arith) (omega arith)
 
 -- the events are in order, and at most so many

@@ -10,13 +10,13 @@ pub mod Marks
 pub mod Priority
 pub mod TaskCalls
 pub mod Precedence
-pub mod TimeOrder
 pub mod Waiters
 pub mod Statements
 pub mod State
 pub mod Settle
 pub mod Calls
 pub mod Ticks
+pub mod TimeOrder
 pub mod Step
 pub mod Counts
 pub mod Trace

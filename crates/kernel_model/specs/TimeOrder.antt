@@ -2,6 +2,8 @@
 use Rattle.std.specs.Prelude.{ℕ, zero, suc, ◌<◌, ◌≤◌, List, All, AllPairs}
 use Rattle.tk_types.specs.declared.task.DueEvent.{DueEvent}
 use Rattle.kernel_model.specs.Base.{Base, advance}
+use Rattle.kernel_model.specs.State.{State}
+use Rattle.kernel_model.specs.Ticks.{tick_state}
 
 -- each of these events falls due after a time
 abbrev pub AreLater : ℕ → List DueEvent → Type 0
@@ -19,3 +21,8 @@ AreInTimeOrder = AllPairs (λ earlier later. earlier.time ≤ later.time)
 abbrev pub after_time : ℕ → Base → Base
 after_time zero b = b
 after_time (suc n) b = advance (after_time n b)
+
+-- the state so many ticks later, where nothing else is done meanwhile
+abbrev pub after_ticks : ℕ → State → State
+after_ticks zero st = st
+after_ticks (suc n) st = tick_state (after_ticks n st)

@@ -1,6 +1,6 @@
 //! Laws of the definitions, each the contract of a function that does nothing.
 
-ghost use Rattle.std.specs.Prelude.{◌≡◌, ℕ, ◌+◌, ◌<◌, ◌≤◌, ◌==◌, if◌then◌else◌, filter, Bool, false, true, pos, List, ◌∷◌, ◌++◌, None, Some};
+ghost use Rattle.std.specs.Prelude.{◌≡◌, ℕ, suc, ◌+◌, ◌<◌, ◌≤◌, ◌==◌, if◌then◌else◌, filter, Bool, false, true, pos, List, ◌∷◌, ◌++◌, None, Some};
 ghost use Rattle.std.specs.Int.{is_negative};
 ghost use Rattle.tk_types.specs.declared.answer.Answer.{Answer};
 ghost use Rattle.tk_types.specs.declared.answer.Outcome.TheVariants.{Returned};
@@ -22,7 +22,7 @@ ghost use Rattle.kernel_model.specs.Rising.{IsRisingBy};
 ghost use Rattle.kernel_model.specs.State.{State};
 ghost use Rattle.kernel_model.specs.TaskCalls.{task_call};
 ghost use Rattle.kernel_model.specs.Ticks.{tick_state};
-ghost use Rattle.kernel_model.specs.TimeOrder.{AreDueBy, AreInTimeOrder, AreLater, after_time};
+ghost use Rattle.kernel_model.specs.TimeOrder.{AreDueBy, AreInTimeOrder, AreLater, after_ticks, after_time};
 ghost use Rattle.kernel_model.specs.Waiters.{waiting_count};
 
 /// Dispatching chooses the ready task of the highest priority, and of equals the one whose stamp is the
@@ -73,8 +73,7 @@ pub fn released_task_stands_last()
 
 /// A time-out falls due in its tick: a wait with a limit of n milliseconds that begins at a time is set for that time
 /// and n + 1. While no more than n have passed it isn't what is due; with one more it is, where nothing else comes
-/// first. A tick that makes an earlier time than that of a wait's end leaves it set, and its task waiting; one that
-/// makes that time ends the wait.
+/// first. So through n ticks the task waits on, and with the next one its wait is over.
 pub fn time_outs_fall_due_in_their_tick()
     ensures limit { (b : Base) (t object : ℕ) (order : Order) (n : ℕ) (k : Task) → task_at b t ≡ Some k →
         limit_of t (make_wait b t object order (pos n)).events ≡ Some (b.time + n + 1) }
@@ -84,6 +83,15 @@ pub fn time_outs_fall_due_in_their_tick()
     ensures ends { (b : Base) (t object : ℕ) (order : Order) (n : ℕ) (k : Task) → task_at b t ≡ Some k → AreLater (b.time + n + 1) b.events →
         let later = after_time (n + 1) (make_wait b t object order (pos n)) in
         due_event later.time later.events ≡ Some (Wait t) }
+    ensures waits_on { (st : State) (t object : ℕ) (order : Order) (n passed : ℕ) (k : Task) → task_at st.base t ≡ Some k → passed ≤ n →
+        is_waiting (after_ticks passed (record st { base = make_wait st.base t object order (pos n) })).base t ≡ true }
+    ensures is_over { (st : State) (t object : ℕ) (order : Order) (n : ℕ) (k : Task) → task_at st.base t ≡ Some k → AreInTimeOrder st.base.events →
+        is_waiting (after_ticks (suc n) (record st { base = make_wait st.base t object order (pos n) })).base t ≡ false }
+{}
+
+/// A tick ends the waits whose time has come, and no other: one that makes an earlier time than that of a wait's end
+/// leaves it set, and its task waiting; one that makes that time ends the wait.
+pub fn a_tick_ends_the_waits_whose_time_has_come()
     ensures stays_set { (st : State) (t due : ℕ) → limit_of t st.base.events ≡ Some due → st.base.time + 1 < due →
         limit_of t (tick_state st).base.events ≡ Some due }
     ensures waits_on { (st : State) (t due : ℕ) → limit_of t st.base.events ≡ Some due → st.base.time + 1 < due →
@@ -94,12 +102,15 @@ pub fn time_outs_fall_due_in_their_tick()
 
 /// What is set falls due in order: nothing is due while all that is set is later, and the first is once its time has
 /// come. What is set takes its place behind all that falls due by its time, so that of equals the one made first comes
-/// first. A tick leaves nothing that falls due by the time that it makes.
+/// first, and what was in order stays so. A tick leaves nothing that falls due by the time that it makes, and the rest
+/// in order.
 pub fn events_fall_due_in_order()
     ensures none { (now : ℕ) (events : List DueEvent) → AreLater now events → due_event now events ≡ None }
     ensures first { (now : ℕ) (first : DueEvent) (rest : List DueEvent) → first.time ≤ now → due_event now (first ∷ rest) ≡ Some first.what }
     ensures set_behind { (event : DueEvent) (front behind : List DueEvent) → AreDueBy event.time front → AreLater event.time behind →
         insert_event event (front ++ behind) ≡ front ++ event ∷ behind }
+    ensures set_in_order { (event : DueEvent) (events : List DueEvent) → AreInTimeOrder events → AreInTimeOrder (insert_event event events) }
+    ensures tick_in_order { (st : State) → AreInTimeOrder st.base.events → AreInTimeOrder (tick_state st).base.events }
     ensures tick { (st : State) → AreInTimeOrder st.base.events → AreLater (st.base.time + 1) (tick_state st).base.events }
 {}
 
