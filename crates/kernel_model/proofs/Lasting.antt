@@ -1,5 +1,5 @@
 -- A wait with a limit of n milliseconds lasts n ticks, and is over with the next one.
-use Rattle.std.proofs.Common.{◌≡◌, ℕ, suc, zero, ◌+◌, ◌<◌, ◌≤◌, Bool, true, false, List, [], ◌∷◌, Some, length, drop, refl, cond, ◌∙◌, ap, pos, inl, inr, arith}
+use Rattle.std.proofs.Common.{◌≡◌, ℕ, suc, zero, ◌+◌, ◌<◌, ◌≤◌, Bool, true, false, List, [], ◌∷◌, Option, Some, length, drop, refl, cond, ◌∙◌, ap, sym, subst, pos, inl, inr, arith}
 use Rattle.std.specs.List.{All}
 use Rattle.std.proofs.lemmas.Bool.{cases_lt, lt-ltb, le-ltb}
 use Rattle.std.proofs.lemmas.List.Elements.{All-cons, All-head, All-tail, All-weaker}
@@ -9,11 +9,11 @@ use Rattle.tk_types.specs.declared.task.Task.{Task}
 use Rattle.tk_types.specs.declared.task.Order.{Order}
 use Rattle.tk_types.specs.declared.task.Phase.TheVariants.{Waiting}
 use Rattle.tk_types.specs.declared.task.DueEvent.{DueEvent}
-use Rattle.kernel_model.specs.Events.{insert_event, without_wait, is_due}
+use Rattle.kernel_model.specs.Events.{limit_of, insert_event, without_wait, is_due}
 use Rattle.kernel_model.specs.Base.{Base, task_at, is_waiting, is_waiting_phase, waits_somewhere, make_wait, release, set_current, take_due}
 use Rattle.kernel_model.specs.State.{State}
 use Rattle.kernel_model.specs.Ticks.{limit_answer, tick_state}
-use Rattle.kernel_model.specs.TimeOrder.{AreInTimeOrder, after_ticks}
+use Rattle.kernel_model.specs.TimeOrder.{AreInTimeOrder, ComesAfter, after_ticks}
 use Rattle.kernel_model.proofs.Tables.{entry_at, entry_cases, entry_there}
 use Rattle.kernel_model.proofs.TimeOuts.{limit_set}
 use Rattle.kernel_model.proofs.Ticks.{pairs_head, pairs_tail}
@@ -83,23 +83,24 @@ order_waits b t object order n set = entry_cases InOrder (task_at b t) b _ set (
 
 -- ---- a wait through the ticks
 
-waits_now : (b : Base) (t object : ℕ) (order : Order) (n : ℕ) (k : Task) → task_at b t ≡ Some k → IsSet b.time t (b.time + n + 1) true (make_wait b t object order (pos n))
+waits_now : (b : Base) (t object : ℕ) (order : Order) (n : ℕ) (k : Task) → task_at b t ≡ Some k → IsSet b.time t (Some (b.time + n + 1)) true (make_wait b t object order (pos n))
 waits_now b t object order n k at = record {
   at = entry_at (λ c. c.time ≡ b.time) (task_at b t) k b _ at refl;
   limit = limit_set b t object order n k at;
   still = entry_at (λ c. is_waiting c t ≡ true) (task_at b t) k b _ at (ap waits_somewhere (entry_there b.tasks t k (Some (record k { phase = Waiting object; queue = order })) at));
 }
 
-set_after : (st : State) (t now due passed : ℕ) → now + passed < due → IsSet now t due true st.base → IsSet (now + passed) t due true (after_ticks passed st).base
+set_after : (st : State) (t now due passed : ℕ) → now + passed < due → IsSet now t (Some due) true st.base → IsSet (now + passed) t (Some due) true (after_ticks passed st).base
 set_after st t now due zero early set = record { at = set.at ∙ omega arith; limit = set.limit; still = set.still }
 set_after st t now due (suc passed) early set =
-    let before : IsSet (now + passed) t due true (after_ticks passed st).base = set_after st t now due passed (omega arith) set in
+    let before : IsSet (now + passed) t (Some due) true (after_ticks passed st).base = set_after st t now due passed (omega arith) set in
     let time : (after_ticks passed st).base.time ≡ now + passed = before.at in
-    let later : IsSet ((after_ticks passed st).base.time + 1) t due (is_waiting (after_ticks passed st).base t) (tick_state (after_ticks passed st)).base = after_tick (after_ticks passed st) t due before.limit (omega arith) in
-    record { at = later.at ∙ omega arith; limit = later.limit; still = later.still ∙ before.still }
+    let comes : ComesAfter ((after_ticks passed st).base.time + 1) (limit_of t (after_ticks passed st).base.events) = subst (λ (limit : Option ℕ). ComesAfter ((after_ticks passed st).base.time + 1) limit) (sym before.limit) (omega arith) in
+    let later = after_tick (after_ticks passed st) t comes in
+    record { at = later.at ∙ omega arith; limit = later.limit ∙ before.limit; still = later.still ∙ before.still }
 
 begun : (st : State) (t object : ℕ) (order : Order) (n passed : ℕ) (k : Task) → task_at st.base t ≡ Some k → passed ≤ n →
-    IsSet (st.base.time + passed) t (st.base.time + n + 1) true (after_ticks passed (record st { base = make_wait st.base t object order (pos n) })).base
+    IsSet (st.base.time + passed) t (Some (st.base.time + n + 1)) true (after_ticks passed (record st { base = make_wait st.base t object order (pos n) })).base
 begun st t object order n passed k at within =
     set_after (record st { base = make_wait st.base t object order (pos n) }) t st.base.time (st.base.time + n + 1) passed (omega arith) (waits_now st.base t object order n k at)
 
@@ -113,6 +114,6 @@ pub wait_over : (st : State) (t object : ℕ) (order : Order) (n : ℕ) (k : Tas
     is_waiting (after_ticks (suc n) (record st { base = make_wait st.base t object order (pos n) })).base t ≡ false
 wait_over st t object order n k at set =
     let first : State = record st { base = make_wait st.base t object order (pos n) } in
-    let last : IsSet (st.base.time + n) t (st.base.time + n + 1) true (after_ticks n first).base = begun st t object order n n k at (omega arith) in
+    let last : IsSet (st.base.time + n) t (Some (st.base.time + n + 1)) true (after_ticks n first).base = begun st t object order n n k at (omega arith) in
     let time : (after_ticks n first).base.time ≡ st.base.time + n = last.at in
     tick_ends (after_ticks n first) t (st.base.time + n + 1) (order_after n first (order_waits st.base t object order n set)) last.limit (omega arith)

@@ -18,7 +18,7 @@ use Rattle.kernel_model.specs.Priority.{current_of, refresh, taken_from, resettl
 use Rattle.kernel_model.specs.Precedence.{KeepsPlace}
 use Rattle.kernel_model.specs.State.{State}
 use Rattle.kernel_model.specs.Ticks.{limit_answer, fallen, due_done, tick_state}
-use Rattle.kernel_model.specs.TimeOrder.{AreLater, AreInTimeOrder}
+use Rattle.kernel_model.specs.TimeOrder.{AreLater, AreInTimeOrder, ComesAfter}
 use Rattle.kernel_model.proofs.Tables.{entry_cases, entry_each, entry_there, entry_other}
 use Rattle.kernel_model.proofs.Releases.{release_over, release_others, release_ready, release_keeps_place}
 use Rattle.kernel_model.proofs.Places.{passes_back}
@@ -127,25 +127,29 @@ set_time b u priority = entry_cases (λ c. c.time ≡ b.time) (task_at b u) b _ 
 
 -- ---- a wait whose time hasn't come
 
--- the time is this one, the wait's end is set for that one, and the task waits or doesn't
-pub record IsSet (now t due : ℕ) (waits : Bool) (b : Base) : Type 0 where
+-- the time is this one, the wait's end is set for that one or isn't set, and the task waits or doesn't
+pub record IsSet (now t : ℕ) (set : Option ℕ) (waits : Bool) (b : Base) : Type 0 where
   pub at : b.time ≡ now
-  pub limit : limit_of t b.events ≡ Some due
+  pub limit : limit_of t b.events ≡ set
   pub still : is_waiting b t ≡ waits
 
-set_refreshed : (now t due : ℕ) (waits : Bool) → Refreshed (IsSet now t due waits)
-set_refreshed now t due waits b u changed has = record {
+set_refreshed : (now t : ℕ) (set : Option ℕ) (waits : Bool) → Refreshed (IsSet now t set waits)
+set_refreshed now t set waits b u changed has = record {
   at = set_time b u (current_of b u) ∙ has.at;
   limit = set_limit b t u (current_of b u) ∙ has.limit;
   still = set_waits b t u (current_of b u) ∙ has.still;
 }
 
-set_step : (now t due : ℕ) (waits : Bool) → now < due → Step (IsSet now t due waits)
-set_step now t due waits early st what is has =
+not_taken : (now t : ℕ) (set : Option ℕ) (waits : Bool) (b : Base) → ComesAfter now set → IsSet now t set waits b → due_event b.time b.events ≡ Some (Wait t) → ⊥
+not_taken now t set waits b early has taken =
+    taken_in_time t now b.events (subst (λ (limit : Option ℕ). ComesAfter now limit) (sym has.limit) early) (ap (λ time. due_event time b.events) (sym has.at) ∙ taken)
+
+set_step : (now t : ℕ) (set : Option ℕ) (waits : Bool) → ComesAfter now set → Step (IsSet now t set waits)
+set_step now t set waits early st what is has =
     let b : Base = take_due st.base in
-    let not_this : what ≡ Wait t → ⊥ = λ this. taken_in_time t st.base.time due st.base.events has.limit (subst (λ (n : ℕ). n < due) (sym has.at) early) (is ∙ ap (λ w. Some w) this) in
-    let limit : limit_of t b.events ≡ Some due = taken_limit t st.base.time st.base.events what is (not_its t what not_this) ∙ has.limit in
-    fallen_keeps (IsSet now t due waits) (set_refreshed now t due waits) st what
+    let not_this : what ≡ Wait t → ⊥ = λ this. not_taken now t set waits st.base early has (is ∙ ap (λ w. Some w) this) in
+    let limit : limit_of t b.events ≡ set = taken_limit t st.base.time st.base.events what is (not_its t what not_this) ∙ has.limit in
+    fallen_keeps (IsSet now t set waits) (set_refreshed now t set waits) st what
     (λ none. record { at = has.at; limit = limit; still = has.still })
     (λ u named.
     let apart : u ≡ t → ⊥ = λ same. not_this (named ∙ ap Wait same) in
@@ -155,18 +159,18 @@ set_step now t due waits early st what is has =
       still = ap waits_somewhere (release_others b u t (limit_answer b u) (λ same. apart (sym same))) ∙ has.still;
     })
 
-pub after_tick : (st : State) (t due : ℕ) → limit_of t st.base.events ≡ Some due → st.base.time + 1 < due → IsSet (st.base.time + 1) t due (is_waiting st.base t) (tick_state st).base
-after_tick st t due limit early =
-    done_keeps (IsSet (st.base.time + 1) t due (is_waiting st.base t)) (set_step (st.base.time + 1) t due (is_waiting st.base t) early) (length st.base.events) (record st { base = record st.base { time = st.base.time + 1 } })
-    (record { at = refl; limit = limit; still = refl })
+pub after_tick : (st : State) (t : ℕ) → ComesAfter (st.base.time + 1) (limit_of t st.base.events) → IsSet (st.base.time + 1) t (limit_of t st.base.events) (is_waiting st.base t) (tick_state st).base
+after_tick st t early =
+    done_keeps (IsSet (st.base.time + 1) t (limit_of t st.base.events) (is_waiting st.base t)) (set_step (st.base.time + 1) t (limit_of t st.base.events) (is_waiting st.base t) early)
+    (length st.base.events) (record st { base = record st.base { time = st.base.time + 1 } }) (record { at = refl; limit = refl; still = refl })
 
--- a tick that comes before a wait's time leaves its end set
-pub tick_leaves_set : (st : State) (t due : ℕ) → limit_of t st.base.events ≡ Some due → st.base.time + 1 < due → limit_of t (tick_state st).base.events ≡ Some due
-tick_leaves_set st t due limit early = (after_tick st t due limit early).limit
+-- a tick that comes before the end of a wait leaves it set, and sets none
+pub tick_leaves_set : (st : State) (t : ℕ) → ComesAfter (st.base.time + 1) (limit_of t st.base.events) → limit_of t (tick_state st).base.events ≡ limit_of t st.base.events
+tick_leaves_set st t early = (after_tick st t early).limit
 
--- and its task waiting
-pub tick_leaves_waiting : (st : State) (t due : ℕ) → limit_of t st.base.events ≡ Some due → st.base.time + 1 < due → is_waiting (tick_state st).base t ≡ is_waiting st.base t
-tick_leaves_waiting st t due limit early = (after_tick st t due limit early).still
+-- and leaves its task waiting
+pub tick_leaves_waiting : (st : State) (t : ℕ) → ComesAfter (st.base.time + 1) (limit_of t st.base.events) → is_waiting (tick_state st).base t ≡ is_waiting st.base t
+tick_leaves_waiting st t early = (after_tick st t early).still
 
 -- ---- a wait whose time has come
 

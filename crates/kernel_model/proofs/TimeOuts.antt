@@ -1,5 +1,5 @@
 -- A wait's time-out is set for one millisecond more than its limit, and falls due then.
-use Rattle.std.proofs.Common.{◌≡◌, ℕ, suc, zero, ◌+◌, ◌<◌, ◌≤◌, Bool, true, false, not, List, [], ◌∷◌, ◌++◌, Option, Some, None, refl, cond, ◌∙◌, ap, sym, pos, arith}
+use Rattle.std.proofs.Common.{◌≡◌, ℕ, suc, zero, ◌+◌, ◌<◌, ◌≤◌, Bool, true, false, not, List, [], ◌∷◌, ◌++◌, Option, Some, None, refl, cond, ◌∙◌, ap, sym, subst, pos, arith}
 use Rattle.std.specs.Prelude.{nat_lt, nat_le}
 use Rattle.std.specs.List.{find, filter}
 use Rattle.std.specs.Option.{option_map}
@@ -12,7 +12,7 @@ use Rattle.tk_types.specs.declared.task.Event.TheVariants.{Wait}
 use Rattle.tk_types.specs.declared.task.DueEvent.{DueEvent}
 use Rattle.kernel_model.specs.Events.{insert_event, without_wait, is_wait_of, ends_wait_of, limit_of, due_event}
 use Rattle.kernel_model.specs.Base.{Base, task_at, make_wait}
-use Rattle.kernel_model.specs.TimeOrder.{AreLater, AreDueBy, after_time}
+use Rattle.kernel_model.specs.TimeOrder.{AreLater, AreDueBy, ComesAfter, after_time}
 use Rattle.kernel_model.proofs.Tables.{itself, entry_at}
 
 -- ---- the limit of a wait
@@ -70,20 +70,17 @@ taken_if : (test : Bool) (what : Event) (t : ℕ) → cond test (Some what) None
 taken_if true what t taken = (refl, cc taken)
 taken_if false what t taken = absurd (cc taken)
 
-limit_first : (t due : ℕ) (first : DueEvent) (rest : List DueEvent) → first.what ≡ Wait t → limit_of t (first ∷ rest) ≡ Some due → first.time ≡ due
-limit_first t due first rest is limit =
-    let test : ends_wait_of t first ≡ true = ap (is_wait_of t) is ∙ itself t in
-    let found : Some first.time ≡ Some due = ap (λ here. option_map (λ (event : DueEvent). event.time) (cond here (Some first) (find (ends_wait_of t) rest))) (sym test) ∙ limit in
-    cc found
+limit_first : (t : ℕ) (first : DueEvent) (rest : List DueEvent) → first.what ≡ Wait t → limit_of t (first ∷ rest) ≡ Some first.time
+limit_first t first rest is = ap (λ here. option_map (λ (event : DueEvent). event.time) (cond here (Some first) (find (ends_wait_of t) rest))) (ap (is_wait_of t) is ∙ itself t)
 
--- a wait's end isn't taken before its time
-pub taken_in_time : (t now due : ℕ) (events : List DueEvent) → limit_of t events ≡ Some due → now < due → due_event now events ≡ Some (Wait t) → ⊥
-taken_in_time t now due [] limit early taken = absurd (cc taken)
-taken_in_time t now due (first ∷ rest) limit early taken =
+-- a wait's end isn't taken before its time, and none is taken that isn't set
+pub taken_in_time : (t now : ℕ) (events : List DueEvent) → ComesAfter now (limit_of t events) → due_event now events ≡ Some (Wait t) → ⊥
+taken_in_time t now [] early taken = absurd (cc taken)
+taken_in_time t now (first ∷ rest) early taken =
     let parts = taken_if (nat_le first.time now) first.what t taken in
-    let same : first.time ≡ due = limit_first t due first rest parts.1 limit in
+    let later : now < first.time = subst (λ (limit : Option ℕ). ComesAfter now limit) (limit_first t first rest parts.1) early in
     let come : nat_le first.time now ≡ true = parts.0 in
-    grind (arith, nat_tests, come, same, early)
+    grind (arith, nat_tests, come, later)
 
 -- ---- the order of what is set
 
@@ -126,7 +123,7 @@ goes_on b t object order n passed k at early taken =
     let c : Base = make_wait b t object order (pos n) in
     let limit : limit_of t (after_time passed c).events ≡ Some (b.time + n + 1) = ap (λ events. limit_of t events) (events_after passed c) ∙ limit_set b t object order n k at in
     let now : (after_time passed c).time ≡ b.time + passed = time_after passed c ∙ ap (λ time. time + passed) (wait_time b t object order n k at) in
-    taken_in_time t (after_time passed c).time (b.time + n + 1) (after_time passed c).events limit (omega arith) taken
+    taken_in_time t (after_time passed c).time (after_time passed c).events (subst (λ (set : Option ℕ). ComesAfter (after_time passed c).time set) (sym limit) (omega arith)) taken
 
 -- with one more it is what is due, where nothing else is
 pub ends_then : (b : Base) (t object : ℕ) (order : Order) (n : ℕ) (k : Task) → task_at b t ≡ Some k → AreLater (b.time + n + 1) b.events →

@@ -1,5 +1,5 @@
 -- Words on when events fall due.
-use Rattle.std.specs.Prelude.{ℕ, zero, suc, ◌<◌, ◌≤◌, List, All, AllPairs}
+use Rattle.std.specs.Prelude.{ℕ, zero, suc, ◌<◌, ◌≤◌, List, All, AllPairs, Option, Some, None}
 use Rattle.tk_types.specs.declared.task.DueEvent.{DueEvent}
 use Rattle.kernel_model.specs.Base.{Base, advance}
 use Rattle.kernel_model.specs.State.{State}
@@ -12,6 +12,11 @@ AreLater now = All (λ event. now < event.time)
 -- each of them falls due by a time
 abbrev pub AreDueBy : ℕ → List DueEvent → Type 0
 AreDueBy now = All (λ event. event.time ≤ now)
+
+-- a limit comes after a time, where there is one
+abbrev pub ComesAfter : ℕ → Option ℕ → Type 0
+ComesAfter now None = Unit {0}
+ComesAfter now (Some due) = now < due
 
 -- none falls due after one that stands behind it
 abbrev pub AreInTimeOrder : List DueEvent → Type 0

@@ -22,7 +22,7 @@ ghost use Rattle.kernel_model.specs.Rising.{IsRisingBy};
 ghost use Rattle.kernel_model.specs.State.{State};
 ghost use Rattle.kernel_model.specs.TaskCalls.{task_call};
 ghost use Rattle.kernel_model.specs.Ticks.{tick_state};
-ghost use Rattle.kernel_model.specs.TimeOrder.{AreDueBy, AreInTimeOrder, AreLater, after_ticks, after_time};
+ghost use Rattle.kernel_model.specs.TimeOrder.{AreDueBy, AreInTimeOrder, AreLater, ComesAfter, after_ticks, after_time};
 ghost use Rattle.kernel_model.specs.Waiters.{waiting_count};
 
 /// Dispatching chooses the ready task of the highest priority, and of equals the one whose stamp is the
@@ -90,11 +90,12 @@ pub fn time_outs_fall_due_in_their_tick()
 {}
 
 /// A tick ends the waits whose time has come, and no other: one that makes an earlier time than that of a wait's end
-/// leaves it set, and its task waiting; one that makes that time ends the wait.
+/// leaves it set, and its task waiting, and so does every tick where a wait has no limit; one that makes that time ends
+/// the wait.
 pub fn a_tick_ends_the_waits_whose_time_has_come()
-    ensures stays_set { (st : State) (t due : ℕ) → limit_of t st.base.events ≡ Some due → st.base.time + 1 < due →
-        limit_of t (tick_state st).base.events ≡ Some due }
-    ensures waits_on { (st : State) (t due : ℕ) → limit_of t st.base.events ≡ Some due → st.base.time + 1 < due →
+    ensures stays_set { (st : State) (t : ℕ) → ComesAfter (st.base.time + 1) (limit_of t st.base.events) →
+        limit_of t (tick_state st).base.events ≡ limit_of t st.base.events }
+    ensures waits_on { (st : State) (t : ℕ) → ComesAfter (st.base.time + 1) (limit_of t st.base.events) →
         is_waiting (tick_state st).base t ≡ is_waiting st.base t }
     ensures is_over { (st : State) (t due : ℕ) → AreInTimeOrder st.base.events → limit_of t st.base.events ≡ Some due → due ≤ st.base.time + 1 →
         is_waiting (tick_state st).base t ≡ false }
