@@ -127,9 +127,13 @@ abbrev pub stack_in : Option Task → ℕ
 stack_in None = 0
 stack_in (Some k) = k.stack
 
+-- the tasks of an order that may run by a table, by current priority and then by precedence
+abbrev pub ready_in : List (Option Task) → List ℕ → List ℕ
+ready_in tasks order = sort_by (λ t. current_in (entry tasks t)) (filter (λ t. may_run (entry tasks t)) order)
+
 -- the tasks that may run, by current priority and then by precedence
 abbrev pub ready_list : Base → List ℕ
-ready_list b = sort_by (current b) (filter (is_ready b) b.order)
+ready_list b = ready_in b.tasks b.order
 
 -- the task that dispatching chooses, or 0 where none is ready
 unfoldable pub chosen : Base → ℕ

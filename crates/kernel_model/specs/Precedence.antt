@@ -1,7 +1,12 @@
 -- Which task is the first to run, in the words of the subject: one that is ready, of the least priority number,
 -- and of those the one that stands first in the order of stamps.
-use Rattle.std.specs.Prelude.{◌≡◌, ℕ, ◌<◌, ◌≤◌, Bool, true, List, [], ◌∷◌, ◌++◌}
+use Rattle.std.specs.Prelude.{◌≡◌, ℕ, ◌<◌, ◌≤◌, Bool, true, false, ◌==◌, List, [], ◌∷◌, ◌++◌}
+use Rattle.tk_types.specs.declared.answer.Who.TheVariants as whos
+use Rattle.tk_types.specs.declared.calls.TaskCall.{TaskCall}
+use Rattle.tk_types.specs.declared.calls.TaskCall.TheVariants as call
+use Rattle.kernel_model.specs.Once.{times}
 use Rattle.kernel_model.specs.Base.{Base, is_ready, current}
+use Rattle.kernel_model.specs.TaskCalls.{named}
 
 -- of these tasks each that is ready has a lower priority than this number
 abbrev pub AllLower : (ℕ → Bool) → (ℕ → ℕ) → ℕ → List ℕ → Type 0
@@ -37,3 +42,17 @@ pub record KeepsPlace (b : Base) (t : ℕ) : Type 0 where
   pub behind : List ℕ
   pub stands : b.order ≡ before ++ t ∷ behind
   pub ahead : AllLower (is_ready b) (current b) (current b t) before
+
+-- whether a call of a task gives its place away by what the call means: it rotates the ready tasks of a priority, or
+-- it changes the caller's own priority
+abbrev pub gives_place_away : ℕ → TaskCall → Bool
+gives_place_away t (call.RotRdq priority) = true
+gives_place_away t (call.ChgPri task priority) = named (whos.Task t) task == t
+gives_place_away t _ = false
+
+-- the task is ready and has the latest stamp: every other one that is ready stands before it
+pub record StandsLast (b : Base) (t : ℕ) : Type 0 where
+  pub may_run : is_ready b t ≡ true
+  pub before : List ℕ
+  pub stands : b.order ≡ before ++ t ∷ []
+  pub others : times t before ≡ 0

@@ -1,12 +1,132 @@
 //! Laws of the definitions, each the contract of a function that does nothing.
 
-ghost use Rattle.std.specs.Prelude.{◌≡◌, ℕ};
-ghost use Rattle.kernel_model.specs.Base.{Base, chosen, is_ready};
-ghost use Rattle.kernel_model.specs.Precedence.{NoneReady, Precedes};
+ghost use Rattle.std.specs.Prelude.{◌≡◌, ℕ, suc, ◌+◌, ◌<◌, ◌≤◌, ◌==◌, if◌then◌else◌, filter, Bool, false, true, pos, List, ◌∷◌, ◌++◌, None, Some};
+ghost use Rattle.std.specs.Int.{is_negative};
+ghost use Rattle.tk_types.specs.declared.answer.Answer.{Answer};
+ghost use Rattle.tk_types.specs.declared.answer.Outcome.TheVariants.{Returned};
+ghost use Rattle.tk_types.specs.declared.answer.Who.{Who};
+ghost use Rattle.tk_types.specs.declared.answer.Who.TheVariants as whos;
+ghost use Rattle.tk_types.specs.declared.calls.TaskCall.{TaskCall};
+ghost use Rattle.tk_types.specs.declared.task.DueEvent.{DueEvent};
+ghost use Rattle.tk_types.specs.declared.task.Event.TheVariants.{Wait};
+ghost use Rattle.tk_types.specs.declared.task.Order.{Order};
+ghost use Rattle.tk_types.specs.declared.task.Phase.TheVariants.{Ready};
+ghost use Rattle.tk_types.specs.declared.task.Task.{Task};
+ghost use Rattle.kernel_model.specs.Base.{Base, chosen, current, dispatch, is_ready, is_waiting, is_waiting_phase, make_ready, make_wait, queue, ready_list, ready_of, release, resume, suspensions_of, task_at};
+ghost use Rattle.kernel_model.specs.Events.{due_event, insert_event, limit_of};
+ghost use Rattle.kernel_model.specs.Once.{IsOnce, times};
+ghost use Rattle.kernel_model.specs.Orders.{without};
+ghost use Rattle.kernel_model.specs.Precedence.{KeepsPlace, NoneReady, Precedes, StandsLast, gives_place_away};
+ghost use Rattle.kernel_model.specs.Priority.{current_of, resettle};
+ghost use Rattle.kernel_model.specs.Rising.{IsRisingBy};
+ghost use Rattle.kernel_model.specs.State.{State};
+ghost use Rattle.kernel_model.specs.TaskCalls.{task_call};
+ghost use Rattle.kernel_model.specs.Ticks.{tick_state};
+ghost use Rattle.kernel_model.specs.TimeOrder.{AreDueBy, AreInTimeOrder, AreLater, ComesAfter, after_ticks, after_time};
+ghost use Rattle.kernel_model.specs.Waiters.{waiting_count};
 
 /// Dispatching chooses the ready task of the highest priority, and of equals the one whose stamp is the
 /// earliest; where no task is ready it chooses none.
 pub fn dispatch_chooses_the_first()
     ensures first { (b : Base) (t : ℕ) → Precedes b t → chosen b ≡ t }
     ensures none { (b : Base) → NoneReady (is_ready b) b.order → chosen b ≡ 0 }
+{}
+
+/// The list of the ready tasks is in rising order of their priorities; each task of the order that is ready stands in it
+/// as often as there, which is once, and no other does; and those of one priority stand in the order of their stamps.
+pub fn the_ready_list_is_in_order()
+    ensures rising { (b : Base) → IsRisingBy (current b) (ready_list b) }
+    ensures stands { (b : Base) (t : ℕ) → times t (ready_list b) ≡ (if is_ready b t then times t b.order else 0) }
+    ensures once { (b : Base) → IsOnce b.order → IsOnce (ready_list b) }
+    ensures equals { (b : Base) (priority : ℕ) → filter (λ t. current b t == priority) (ready_list b) ≡ ready_of b priority }
+{}
+
+/// A task that is preempted keeps its place: a task that makes a call and stays ready, with the priority that it
+/// has, stays the first of its equals, unless the call gives its place away by what it means. Neither a dispatch
+/// to another task, nor the end of another one's wait, nor what settling makes of others' priorities, nor a whole
+/// tick changes that.
+pub fn preempted_task_keeps_its_place()
+    ensures call { (b : Base) (t : ℕ) (call : TaskCall) → KeepsPlace b t → is_ready b t ≡ true →
+        gives_place_away t call ≡ false →
+        is_ready (task_call b (whos.Task t) call).base t ≡ true →
+        current (task_call b (whos.Task t) call).base t ≡ current b t →
+        KeepsPlace (task_call b (whos.Task t) call).base t }
+    ensures dispatch { (b : Base) (t : ℕ) → KeepsPlace b t → KeepsPlace (dispatch b) t }
+    ensures wait_ends { (b : Base) (t u : ℕ) (result : Answer) → KeepsPlace b t → is_ready b t ≡ true →
+        KeepsPlace (release b u result) t }
+    ensures settled { (b : Base) (t : ℕ) → KeepsPlace b t → is_ready b t ≡ true → current b t ≡ current_of b t →
+        KeepsPlace (resettle b) t }
+    ensures tick { (st : State) (t : ℕ) → KeepsPlace st.base t → is_ready st.base t ≡ true →
+        current st.base t ≡ current_of st.base t → KeepsPlace (tick_state st).base t }
+{}
+
+/// A task that becomes ready takes the latest stamp, so that every other ready task of its priority stands before
+/// it: when it is started, when its wait ends, and when the last of its suspensions is taken off.
+pub fn released_task_stands_last()
+    ensures started { (b : Base) (t : ℕ) (k : Task) → task_at b t ≡ Some k → k.suspensions ≡ 0 →
+        StandsLast (make_ready b t) t }
+    ensures wait_ends { (b : Base) (t : ℕ) (k : Task) (result : Answer) → task_at b t ≡ Some k →
+        is_waiting_phase k.phase ≡ true → k.suspensions ≡ 0 → StandsLast (release b t result) t }
+    ensures resumed { (b : Base) (t : ℕ) (k : Task) (all : Bool) → task_at b t ≡ Some k → k.phase ≡ Ready →
+        0 < k.suspensions → suspensions_of (resume b t all) t ≡ 0 → StandsLast (resume b t all) t }
+{}
+
+/// A time-out falls due in its tick: a wait with a limit of n milliseconds that begins at a time is set for that time
+/// and n + 1. While no more than n have passed it isn't what is due; with one more it is, where nothing else comes
+/// first. So through n ticks the task waits on, and with the next one its wait is over.
+pub fn time_outs_fall_due_in_their_tick()
+    ensures limit { (b : Base) (t object : ℕ) (order : Order) (n : ℕ) (k : Task) → task_at b t ≡ Some k →
+        limit_of t (make_wait b t object order (pos n)).events ≡ Some (b.time + n + 1) }
+    ensures goes_on { (b : Base) (t object : ℕ) (order : Order) (n passed : ℕ) (k : Task) → task_at b t ≡ Some k → passed ≤ n →
+        let later = after_time passed (make_wait b t object order (pos n)) in
+        due_event later.time later.events ≡ Some (Wait t) → ⊥ }
+    ensures ends { (b : Base) (t object : ℕ) (order : Order) (n : ℕ) (k : Task) → task_at b t ≡ Some k → AreLater (b.time + n + 1) b.events →
+        let later = after_time (n + 1) (make_wait b t object order (pos n)) in
+        due_event later.time later.events ≡ Some (Wait t) }
+    ensures waits_on { (st : State) (t object : ℕ) (order : Order) (n passed : ℕ) (k : Task) → task_at st.base t ≡ Some k → passed ≤ n →
+        is_waiting (after_ticks passed (record st { base = make_wait st.base t object order (pos n) })).base t ≡ true }
+    ensures is_over { (st : State) (t object : ℕ) (order : Order) (n : ℕ) (k : Task) → task_at st.base t ≡ Some k → AreInTimeOrder st.base.events →
+        is_waiting (after_ticks (suc n) (record st { base = make_wait st.base t object order (pos n) })).base t ≡ false }
+{}
+
+/// A tick ends the waits whose time has come, and no other: one that makes an earlier time than that of a wait's end
+/// leaves it set, and its task waiting, and so does every tick where a wait has no limit; one that makes that time ends
+/// the wait.
+pub fn a_tick_ends_the_waits_whose_time_has_come()
+    ensures stays_set { (st : State) (t : ℕ) → ComesAfter (st.base.time + 1) (limit_of t st.base.events) →
+        limit_of t (tick_state st).base.events ≡ limit_of t st.base.events }
+    ensures waits_on { (st : State) (t : ℕ) → ComesAfter (st.base.time + 1) (limit_of t st.base.events) →
+        is_waiting (tick_state st).base t ≡ is_waiting st.base t }
+    ensures is_over { (st : State) (t due : ℕ) → AreInTimeOrder st.base.events → limit_of t st.base.events ≡ Some due → due ≤ st.base.time + 1 →
+        is_waiting (tick_state st).base t ≡ false }
+{}
+
+/// What is set falls due in order: nothing is due while all that is set is later, and the first is once its time has
+/// come. What is set takes its place behind all that falls due by its time, so that of equals the one made first comes
+/// first, and what was in order stays so. A tick leaves nothing that falls due by the time that it makes, and the rest
+/// in order.
+pub fn events_fall_due_in_order()
+    ensures none { (now : ℕ) (events : List DueEvent) → AreLater now events → due_event now events ≡ None }
+    ensures first { (now : ℕ) (first : DueEvent) (rest : List DueEvent) → first.time ≤ now → due_event now (first ∷ rest) ≡ Some first.what }
+    ensures set_behind { (event : DueEvent) (front behind : List DueEvent) → AreDueBy event.time front → AreLater event.time behind →
+        insert_event event (front ++ behind) ≡ front ++ event ∷ behind }
+    ensures set_in_order { (event : DueEvent) (events : List DueEvent) → AreInTimeOrder events → AreInTimeOrder (insert_event event events) }
+    ensures tick_in_order { (st : State) → AreInTimeOrder st.base.events → AreInTimeOrder (tick_state st).base.events }
+    ensures tick { (st : State) → AreInTimeOrder st.base.events → AreLater (st.base.time + 1) (tick_state st).base.events }
+{}
+
+/// A call on tasks that is refused changes nothing: where a call answers a negative value, which is an error, all that
+/// the kernel keeps is as it was.
+pub fn a_call_that_is_refused_changes_nothing()
+    ensures { (b : Base) (who : Who) (call : TaskCall) (answer : Answer) → (task_call b who call).outcome ≡ Returned answer →
+        is_negative answer.value ≡ true → (task_call b who call).base ≡ b }
+{}
+
+/// A release ends one wait: it leaves every other task's row as it was, the task no longer waits, one task fewer waits
+/// than before, and in every queue the others stand as they stood.
+pub fn a_release_ends_one_wait()
+    ensures others { (b : Base) (t u : ℕ) (result : Answer) → (u ≡ t → ⊥) → task_at (release b t result) u ≡ task_at b u }
+    ensures over { (b : Base) (t : ℕ) (result : Answer) → is_waiting (release b t result) t ≡ false }
+    ensures one { (b : Base) (t : ℕ) (result : Answer) → is_waiting b t ≡ true → waiting_count b ≡ waiting_count (release b t result) + 1 }
+    ensures queues { (order : Order) (b : Base) (t object : ℕ) (result : Answer) → queue order (release b t result) object ≡ without t (queue order b object) }
 {}

@@ -1,0 +1,19 @@
+use Rattle.kernel_model.proofs.Preemption.{call_keeps_place}
+use Rattle.kernel_model.proofs.Releases.{release_keeps_place}
+use Rattle.kernel_model.proofs.TickEnds.{settling_keeps_place, tick_keeps_place}
+use Rattle.kernel_model.proofs.laws.preempted_task_keeps_its_place.Goals as goal
+
+pub returns-clause-call : goal.returns-clause-call
+returns-clause-call c = call_keeps_place
+
+pub returns-clause-dispatch : goal.returns-clause-dispatch
+returns-clause-dispatch c = λ b t is. record { before = is.before; behind = is.behind; stands = is.stands; ahead = is.ahead }
+
+pub returns-clause-wait_ends : goal.returns-clause-wait_ends
+returns-clause-wait_ends c = release_keeps_place
+
+pub returns-clause-settled : goal.returns-clause-settled
+returns-clause-settled c = settling_keeps_place
+
+pub returns-clause-tick : goal.returns-clause-tick
+returns-clause-tick c = tick_keeps_place
