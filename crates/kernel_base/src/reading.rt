@@ -2,12 +2,12 @@
 
 ghost use Rattle.std.specs.Prelude.{◌≡◌, ◌&&◌, ◌==◌, None, drop, length};
 ghost use Rattle.kernel_model.specs.Base.{base_of, chosen, current, free_task, has_room, initial_of, is_dormant, is_dormant_phase, is_ready, is_ready_phase, is_waiting, is_waiting_phase, suspensions_of, task_at, waits_for, waits_in, wakeups_of};
-ghost use Rattle.kernel_model.specs.Choice.{best_of, better};
 ghost use Rattle.kernel_model.specs.Orders.{free_from};
 ghost use Rattle.kernel_model.specs.Views.{is_current};
 ghost use Rattle.std.specs.Option.{is_some};
 
 use crate::base::Base;
+use crate::queueing::first;
 use tk_types::{Phase, Task};
 
 /// Whether a task is ready or suspended out of being ready.
@@ -189,43 +189,12 @@ impl Base {
     }
 
     /// The task that dispatching chooses, or 0 where none is ready.
-    #[tactic(auto, using(kernel_model::proofs::Choice::chosen_is_best))]
     pub fn chosen(&self) -> u8
         ensures { result ≡ chosen self.now }
     {
-        match self.best_ready() {
+        match first(&self.ready) {
             None => 0,
             Some(task) => task,
-        }
-    }
-
-    /// The ready task of the least current priority, of equals the earliest.
-    fn best_ready(&self) -> Option<u8>
-        ensures { result ≡ best_of (is_ready self.now) (current self.now) None self.now.order }
-    {
-        let mut best = None;
-        'tasks: for task in self.order.as_slice() {
-            best = self.better(best, *task);
-        }
-        best
-    }
-
-    /// The better one of the best so far and a task behind it.
-    fn better(&self, best: Option<u8>, task: u8) -> Option<u8>
-        ensures { result ≡ better (is_ready self.now) (current self.now) best task }
-    {
-        if !self.is_ready(task) {
-            return best;
-        }
-        match best {
-            None => Some(task),
-            Some(other) => {
-                if self.current(task) < self.current(other) {
-                    Some(task)
-                } else {
-                    Some(other)
-                }
-            }
         }
     }
 }

@@ -133,7 +133,7 @@ stopped_in_place t tasks changed order same stops = sym (ready_left t changed or
 pub deleted_from : (t : ℕ) (tasks changed : List (Option Task)) (order : List ℕ) → AreSameBut t tasks changed → ready_in changed (without t order) ≡ without t (ready_in tasks order)
 deleted_from t tasks changed order same = others_stay t tasks changed order same
 
-alike_at : {A : Type 0} (of : Option Task → A) (t : ℕ) (tasks changed : List (Option Task)) (n : ℕ) (b : Bool) → (n == t) ≡ b → AreSameBut t tasks changed → of (entry changed t) ≡ of (entry tasks t) → of (entry changed n) ≡ of (entry tasks n)
+pub alike_at : {A : Type 0} (of : Option Task → A) (t : ℕ) (tasks changed : List (Option Task)) (n : ℕ) (b : Bool) → (n == t) ≡ b → AreSameBut t tasks changed → of (entry changed t) ≡ of (entry tasks t) → of (entry changed n) ≡ of (entry tasks n)
 alike_at of t tasks changed n true is same here = let at : n ≡ t = same_test n t is in rw at here
 alike_at of t tasks changed n false is same here = ap of (same.elsewhere n (other_is n t false is refl))
 
