@@ -1,6 +1,6 @@
 //! What the base tells of its tasks.
 
-ghost use Rattle.std.specs.Prelude.{◌≡◌, ◌&&◌, ◌==◌, None, drop, length};
+ghost use Rattle.std.specs.Prelude.{◌≡◌, ◌≤◌, ◌&&◌, ◌==◌, None, drop, length, true};
 ghost use Rattle.kernel_model.specs.Base.{base_of, chosen, current, free_task, has_room, initial_of, is_dormant, is_dormant_phase, is_ready, is_ready_phase, is_waiting, is_waiting_phase, suspensions_of, task_at, waits_for, waits_in, wakeups_of};
 ghost use Rattle.kernel_model.specs.Orders.{free_from};
 ghost use Rattle.kernel_model.specs.Views.{is_current};
@@ -136,31 +136,37 @@ impl Base {
         }
     }
 
-    /// The current priority of a task, 0 where it doesn't exist.
+    /// The current priority of a task, from 1 to 140, or 0 where it doesn't exist.
     pub fn current(&self, task: u8) -> u8
-        ensures { result ≡ current self.now task }
+        ensures priority { result ≡ current self.now task }
+        ensures low { is_some (task_at self.now task) ≡ true → 1 ≤ result }
+        ensures high { result ≤ 140 }
     {
-        match self.task(task) {
+        match self.slot(task) {
             None => 0,
             Some(row) => row.current,
         }
     }
 
-    /// The base priority of a task, 0 where it doesn't exist.
+    /// The base priority of a task, from 1 to 140, or 0 where it doesn't exist.
     pub fn base_of(&self, task: u8) -> u8
-        ensures { result ≡ base_of self.now task }
+        ensures priority { result ≡ base_of self.now task }
+        ensures low { is_some (task_at self.now task) ≡ true → 1 ≤ result }
+        ensures high { result ≤ 140 }
     {
-        match self.task(task) {
+        match self.slot(task) {
             None => 0,
             Some(row) => row.base,
         }
     }
 
-    /// The priority of a task's creation, 0 where it doesn't exist.
+    /// The priority of a task's creation, from 1 to 140, or 0 where it doesn't exist.
     pub fn initial_of(&self, task: u8) -> u8
-        ensures { result ≡ initial_of self.now task }
+        ensures priority { result ≡ initial_of self.now task }
+        ensures low { is_some (task_at self.now task) ≡ true → 1 ≤ result }
+        ensures high { result ≤ 140 }
     {
-        match self.task(task) {
+        match self.slot(task) {
             None => 0,
             Some(row) => row.initial,
         }
