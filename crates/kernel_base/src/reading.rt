@@ -69,6 +69,14 @@ impl Base {
         self.tasks[task as usize]
     }
 
+    /// How many IDs there are: 256, with 0, which no task has.
+    pub fn ids(&self) -> usize
+        ensures slots { result ≡ length self.now.tasks }
+        ensures all { result ≡ 256 }
+    {
+        self.tasks.len()
+    }
+
     /// Whether the task exists.
     pub fn exists(&self, task: u8) -> bool
         ensures { result ≡ is_some (task_at self.now task) }

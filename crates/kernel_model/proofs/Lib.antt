@@ -3,3 +3,4 @@ pub mod Precedence
 pub mod Once
 pub mod Sorting
 pub mod ReadyLists
+pub mod Counts

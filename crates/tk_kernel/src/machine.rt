@@ -1,18 +1,18 @@
 //! The machine that runs a script.
 
-ghost use Rattle.std.specs.Prelude.{◌≡◌, ◌<◌, ◌≤◌, ◌+◌, ◌++◌, IfOk, IsErr, OnErr, OnOk, Some, [], true};
-ghost use Rattle.std.specs.Bool.{◌==◌};
-ghost use Rattle.kernel_model.specs.Base.{chosen};
+ghost use Rattle.std.specs.Prelude.{◌≡◌, ◌<◌, ◌≤◌, ◌++◌, IfOk, IsErr, OnErr, OnOk, [], true};
+ghost use Rattle.kernel_model.specs.Counts.{IsCounted};
 ghost use Rattle.kernel_model.specs.Machine.{Machine as MachineView, after_step, new_machine};
 ghost use Rattle.kernel_model.specs.Statements.{IsRunnable};
-ghost use Rattle.kernel_model.specs.Step.{counted_at, followed, idle, step};
+ghost use Rattle.kernel_model.specs.Step.{step};
 ghost use Rattle.tk_kernel.specs.Pace.{pace_of};
 
 use crate::kernel::Kernel;
+use crate::stepping::push_end;
 use std::alloc::{AllocError, Global};
 use std::marker::Model;
 use std::mem;
-use tk_types::{End, LastLine, Line, Mode, OutOfMemory, Script};
+use tk_types::{End, Line, Mode, OutOfMemory, Script};
 
 /// What a call of `step` came to.
 #[derive(Clone, Copy, Debug, PartialEq, Eq)]
@@ -47,55 +47,8 @@ impl Model for Machine {
     ghost invariant = { λ m. IsGoing m.script m.budget m.kernel m.over m.failed };
 }
 
-/// The waits that ended, with their lines, and the dispatch.
-fn follow(
-    kernel: &mut Kernel,
-    script: &Script,
-    step: u32,
-    lines: &mut Vec<Line>,
-) -> Result<(), AllocError>
-    ensures state { OnOk result (kernel.new ≡ (followed script.now step kernel.old).state) }
-    ensures lines { OnOk result (lines.new.items ≡ lines.old.items ++ (followed script.now step kernel.old).lines) }
-{
-    kernel.follow_releases(script, step, lines)?;
-    kernel.dispatch(step, lines)
-}
-
-/// Ends the run idle, where no task is ready.
-fn end_idle(kernel: &Kernel, lines: &mut Vec<Line>) -> Result<(), AllocError>
-    ensures { OnOk result (lines.new.items ≡ lines.old.items ++ (idle kernel.now).lines) }
-{
-    lines.push(Line::End {
-        step: kernel.steps(),
-        end: LastLine::Idle,
-    })?;
-    Ok(())
-}
-
-/// Counts a step, and ends the run at its budget.
-fn count(
-    kernel: &mut Kernel,
-    budget: u32,
-    step: u32,
-    lines: &mut Vec<Line>,
-) -> Result<Option<End>, AllocError>
-    ensures state { OnOk result (kernel.new ≡ record kernel.old { steps = step }) }
-    ensures ending { IfOk result (λ over. over ≡ (counted_at (step == budget) step (record { state = kernel.old; lines = lines.old.items })).over) }
-    ensures lines { OnOk result (lines.new.items ≡ (counted_at (step == budget) step (record { state = kernel.old; lines = lines.old.items })).lines) }
-{
-    kernel.set_steps(step);
-    if step == budget {
-        lines.push(Line::End {
-            step,
-            end: LastLine::Budget,
-        })?;
-        return Ok(Some(End::Budget));
-    }
-    Ok(None)
-}
-
 /// A step of a run that goes on.
-#[tactic(auto, unfolding(kernel_model::specs::Step::step))]
+#[tactic(auto, unfolding(kernel_model::specs::Step::step, kernel_model::specs::Step::counted))]
 fn advance(
     kernel: &mut Kernel,
     script: &Script,
@@ -105,26 +58,24 @@ fn advance(
     requires runnable { IsRunnable script.now }
     requires limit { budget ≤ 1000000 }
     requires left { kernel.old.steps < budget }
-    requires turned { kernel.old.base.cur ≡ Some (chosen kernel.old.base) }
+    requires counts { IsCounted kernel.old }
     ensures state { OnOk result (kernel.new ≡ (step script.now budget kernel.old).state) }
     ensures ending { IfOk result (λ over. over ≡ (step script.now budget kernel.old).over) }
     ensures lines { OnOk result (lines.new.items ≡ lines.old.items ++ (step script.now budget kernel.old).lines) }
 {
-    let task = kernel.running();
-    if task == 0 {
-        end_idle(kernel, lines)?;
+    if kernel.is_quiet() {
+        push_end(lines, kernel.steps(), Some(End::Idle))?;
         return Ok(Some(End::Idle));
     }
     let step = kernel.steps() + 1;
-    kernel.run(script, step, task, lines)?;
-    follow(kernel, script, step, lines)?;
-    count(kernel, budget, step, lines)
+    kernel.work(script, step, lines)?;
+    kernel.count(budget, step, lines)
 }
 
 impl Machine {
     /// A machine at the start of a script, which keeps the line of its first dispatch. The script is one that
     /// some text spells, and the budget of steps is from 1 to 1,000,000.
-    #[tactic(auto, unfolding(kernel_model::specs::Trace::start), using(kernel_model::proofs::Steps::dispatched_turned))]
+    #[tactic(auto, unfolding(kernel_model::specs::Trace::start))]
     pub fn new(
         alloc: Global,
         script: Script,

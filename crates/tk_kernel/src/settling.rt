@@ -18,7 +18,8 @@ fn current_of(base: &Base, task: u8) -> u8
     base.base_of(task)
 }
 
-/// A task whose current priority isn't that of its definition takes that one, with a new stamp.
+/// A task whose current priority isn't that of its definition takes that one, with a new stamp. Where there is no such
+/// task nothing changes.
 fn refresh(base: &mut Base, task: u8)
     ensures { base.new ≡ refresh base.old task }
 {
@@ -33,11 +34,9 @@ fn refresh(base: &mut Base, task: u8)
 fn resettle(base: &mut Base)
     ensures { base.new ≡ resettle base.old }
 {
-    'tasks: for id in 1..256usize {
-        let task = id as u8;
-        if base.exists(task) {
-            refresh(base, task);
-        }
+    let ids = base.ids();
+    'tasks: for id in 1..ids {
+        refresh(base, id as u8);
     }
 }
 
