@@ -66,7 +66,7 @@ impl Base {
     pub fn task(&self, task: u8) -> Option<Task>
         ensures { result ≡ task_at self.now task }
     {
-        self.tasks[task as usize]
+        self.slot(task)
     }
 
     /// How many IDs there are: 256, with 0, which no task has.

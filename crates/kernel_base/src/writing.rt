@@ -1,9 +1,8 @@
 //! A task's slot is written, its place in the order with it, and the queue of the ready tasks is kept by both.
 
-ghost use Rattle.std.specs.Prelude.{◌≡◌, Some, false, true};
+ghost use Rattle.std.specs.Prelude.{◌≡◌, None, Some, false, true, slice_set};
 ghost use Rattle.kernel_model.specs.Base.{current, is_ready, may_run, task_at, with_task};
 ghost use Rattle.kernel_model.specs.Orders.{to_back, without};
-ghost use Rattle.std.specs.Prelude.{None, slice_set};
 ghost use Rattle.kernel_base.specs.Ready.{fits_slot, has_priorities};
 
 use crate::base::Base;
