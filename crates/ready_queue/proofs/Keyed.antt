@@ -22,7 +22,7 @@ left_out_if true first rest e = refl
 left_out_if false first rest e = absurd (cc e)
 
 -- a list without a key is left as it is
-none_left_out : {X : Type 0} (of : X → ℕ) (key : ℕ) (list : List X) → AllByRecursion (λ other. eqb key other ≡ false) (map of list) → list ≡ filter (λ x. not (of x == key)) list
+pub none_left_out : {X : Type 0} (of : X → ℕ) (key : ℕ) (list : List X) → AllByRecursion (λ other. eqb key other ≡ false) (map of list) → list ≡ filter (λ x. not (of x == key)) list
 none_left_out of key [] none = refl
 none_left_out of key (first ∷ rest) none =
     ap (λ list. first ∷ list) (none_left_out of key rest none.1) ∙ sym (kept_if (of first == key) first (filter (λ x. not (of x == key)) rest) (flipped key (of first) none.0))

@@ -60,7 +60,7 @@ all_spelled text script is = reading_takes text script (script_was_read (reading
 
 -- what is spelled can be run
 pub spelled_runs : (text : List ℕ) (script : Script) → Spells text script → IsRunnable script
-spelled_runs text script is = record { few_devices = is.script_is.few_devices }
+spelled_runs text script is = record { few_devices = is.script_is.few_devices; least_priority = is.script_is.boot_priority.0; most_priority = is.script_is.boot_priority.1 }
 
 pub reading_runs : (text : List ℕ) (reading : Reading) → reading ≡ reading_of text → IsRunnableReading reading
 reading_runs text (readings.Script script) is = spelled_runs text script (spelled text script (sym is))

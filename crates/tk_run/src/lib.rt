@@ -9,6 +9,8 @@ mod run;
 mod running;
 mod status;
 #[cfg(test)]
+mod task_runs;
+#[cfg(test)]
 mod tests;
 mod turn;
 

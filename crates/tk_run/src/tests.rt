@@ -30,11 +30,13 @@ const LOOSE: &[u8] =
 
 const PLAIN: &[u8] = b"utk 1\nboot main 10\nbody main task\nsay hello\nend\n";
 
-const PACED: &[u8] = b"utk 1\npace 7\nboot main 10\nbody main task\nnop\nend\n";
+const INTERRUPTED: &[u8] = b"utk 1\npace 7\nirq 1 1\nboot main 10\nbody main task\nnop\nend\n";
 
-const LATER: &[u8] = b"utk 1\n# note\nboot main 10\nbody main task\nsay a\nset r1  -5\nhalt\nend\n";
+const LATER: &[u8] =
+    b"utk 1\n# note\nboot main 10\nbody main task\nsay a\ntk_cre_sem  - 0 1\nhalt\nend\n";
 
-const LATER_FORM: &[u8] = b"utk 1\nboot main 10\nbody main task\nsay a\nset r1 -5\nhalt\nend\n";
+const LATER_FORM: &[u8] =
+    b"utk 1\nboot main 10\nbody main task\nsay a\ntk_cre_sem - 0 1\nhalt\nend\n";
 
 const OPEN_BODY: &[u8] = b"utk 1\nboot main 10\nbody main task\ntk_ext_tsk\n";
 
@@ -53,7 +55,11 @@ fn words_of(alloc: Global, line: &str) -> Result<Vec<String>, OutOfMemory> {
 }
 
 /// What the program answers and writes, over streams that never fail.
-fn outcome(alloc: Global, line: &str, input: &[u8]) -> Result<(Status, Vec<u8>), OutOfMemory> {
+pub(crate) fn outcome(
+    alloc: Global,
+    line: &str,
+    input: &[u8],
+) -> Result<(Status, Vec<u8>), OutOfMemory> {
     let words = words_of(alloc, line)?;
     let mut source = MemSource::new(alloc, input, &[])?;
     let mut sink = MemSink::new(alloc, 4096, &[])?;
@@ -136,7 +142,7 @@ fn other_inputs_are_refused(rt: HostRuntime) -> Result<(), Fail> {
 #[test]
 fn unbuilt_lines_are_refused(rt: HostRuntime) -> Result<(), Fail> {
     for (input, line, text) in [
-        (PACED, 2, b"refused 2 later\n".as_slice()),
+        (INTERRUPTED, 3, b"refused 3 later\n".as_slice()),
         (LATER, 6, b"refused 6 later\n".as_slice()),
     ] {
         let (status, output) = outcome(rt.alloc(), "run", input)?;
@@ -158,7 +164,7 @@ fn scripts_are_printed(rt: HostRuntime) -> Result<(), Fail> {
     for (input, form) in [
         (LOOSE, PLAIN),
         (HELLO, HELLO),
-        (PACED, PACED),
+        (INTERRUPTED, INTERRUPTED),
         (LATER, LATER_FORM),
     ] {
         let (status, output) = outcome(rt.alloc(), "check", input)?;

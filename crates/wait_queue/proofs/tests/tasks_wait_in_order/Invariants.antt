@@ -1,0 +1,4 @@
+use Rattle.wait_queue.proofs.tests.tasks_wait_in_order.Given as goal
+
+abbrev pub ghosts-three_steps : goal.ghosts-three_steps
+ghosts-three_steps g a = record { name = a.blank.name; parts = a.blank.parts }
