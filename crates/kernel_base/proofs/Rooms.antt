@@ -17,7 +17,7 @@ use Rattle.std.specs.Prelude.{Option, ◌||◌, ◌&&◌, nat_le}
 use Rattle.std.proofs.Math.ListN.{length-set}
 use Rattle.time_queue.specs.Queue.{Queue}
 use Rattle.kernel_base.specs.Handlers.{has_event, is_handler}
-use Rattle.kernel_base.specs.Room.{IsOrder, AreReleases, IsBase, tasks_of, numbers_of, number_of, most_events}
+use Rattle.kernel_base.specs.Room.{IsOrder, AreReleases, HasRoom, tasks_of, numbers_of, number_of, most_events}
 
 -- ---- orders of task IDs
 
@@ -204,32 +204,36 @@ events_room n xs low none is =
 
 -- ---- the base
 
-base_kept : (tasks changed : List (Option Task)) (events left : List DueEvent) (most : ℕ) → IsBase tasks events most → length changed ≡ length tasks → AreEvents left → IsBase changed left most
+base_kept : (tasks changed : List (Option Task)) (events left : List DueEvent) (most : ℕ) → HasRoom tasks events most → length changed ≡ length tasks → AreEvents left → HasRoom changed left most
 base_kept tasks changed events left most is same kept = record { slots = same ∙ is.slots; once = kept.0; below = kept.1; room = is.room }
 
--- a task's slot is written, and the end of its wait dropped
-pub wait_dropped : (task : ℕ) (row : Option Task) (tasks : List (Option Task)) (old now : Queue) → IsBase tasks old.events old.most → now ≡ record old { events = without_wait task old.events } → IsBase (slice_set tasks task row) now.events now.most
-wait_dropped task row tasks old now is at =
-    subst (λ (q : Queue). IsBase (slice_set tasks task row) q.events q.most) (sym at)
-    (base_kept tasks (slice_set tasks task row) old.events (without_wait task old.events) old.most is (length-set tasks task row) (events_filter (λ event. not (ends_wait_of task event)) old.events (is.once, is.below)))
+-- a slot is written
+pub slot_written : (task : ℕ) (slot : Option Task) (tasks : List (Option Task)) (events : List DueEvent) (most : ℕ) → HasRoom tasks events most → HasRoom (slice_set tasks task slot) events most
+slot_written task slot tasks events most is = base_kept tasks (slice_set tasks task slot) events events most is (length-set tasks task slot) (is.once, is.below)
 
-pub key_dropped : (key : ℕ) (tasks : List (Option Task)) (old now : Queue) → IsBase tasks old.events old.most → now ≡ record old { events = without_key key old.events } → IsBase tasks now.events now.most
+-- the end of a task's wait is dropped
+pub wait_dropped : (task : ℕ) (tasks : List (Option Task)) (old now : Queue) → HasRoom tasks old.events old.most → now ≡ record old { events = without_wait task old.events } → HasRoom tasks now.events now.most
+wait_dropped task tasks old now is at =
+    subst (λ (q : Queue). HasRoom tasks q.events q.most) (sym at)
+    (base_kept tasks tasks old.events (without_wait task old.events) old.most is refl (events_filter (λ event. not (ends_wait_of task event)) old.events (is.once, is.below)))
+
+pub key_dropped : (key : ℕ) (tasks : List (Option Task)) (old now : Queue) → HasRoom tasks old.events old.most → now ≡ record old { events = without_key key old.events } → HasRoom tasks now.events now.most
 key_dropped key tasks old now is at =
-    subst (λ (q : Queue). IsBase tasks q.events q.most) (sym at)
+    subst (λ (q : Queue). HasRoom tasks q.events q.most) (sym at)
     (base_kept tasks tasks old.events (without_key key old.events) old.most is refl (events_filter (λ event. not (event.key == key)) old.events (is.once, is.below)))
 
-pub due_taken : (time : ℕ) (tasks : List (Option Task)) (old now : Queue) → IsBase tasks old.events old.most → now ≡ record old { events = left_after time old.events } → IsBase tasks now.events now.most
+pub due_taken : (time : ℕ) (tasks : List (Option Task)) (old now : Queue) → HasRoom tasks old.events old.most → now ≡ record old { events = left_after time old.events } → HasRoom tasks now.events now.most
 due_taken time tasks old now is at =
-    subst (λ (q : Queue). IsBase tasks q.events q.most) (sym at)
+    subst (λ (q : Queue). HasRoom tasks q.events q.most) (sym at)
     (base_kept tasks tasks old.events (left_after time old.events) old.most is refl (events_left time old.events (is.once, is.below)))
 
 -- an event that isn't set has room, and may be set
-pub event_room : (what : Event) (tasks : List (Option Task)) (old : Queue) → number_of what < most_events → times (number_of what) (numbers_of old.events) ≡ 0 → IsBase tasks old.events old.most → length old.events < old.most
+pub event_room : (what : Event) (tasks : List (Option Task)) (old : Queue) → number_of what < most_events → times (number_of what) (numbers_of old.events) ≡ 0 → HasRoom tasks old.events old.most → length old.events < old.most
 event_room what tasks old low none is = subst (λ (most : ℕ). length old.events < most) (sym is.room) (events_room (number_of what) old.events low none (is.once, is.below))
 
-pub event_added : (due : ℕ) (what : Event) (tasks : List (Option Task)) (old now : Queue) → number_of what < most_events → times (number_of what) (numbers_of old.events) ≡ 0 → IsBase tasks old.events old.most → now ≡ record old { events = insert_event (record { time = due; key = old.made; what = what }) old.events; made = old.made + 1 } → IsBase tasks now.events now.most
+pub event_added : (due : ℕ) (what : Event) (tasks : List (Option Task)) (old now : Queue) → number_of what < most_events → times (number_of what) (numbers_of old.events) ≡ 0 → HasRoom tasks old.events old.most → now ≡ record old { events = insert_event (record { time = due; key = old.made; what = what }) old.events; made = old.made + 1 } → HasRoom tasks now.events now.most
 event_added due what tasks old now low none is at =
-    subst (λ (q : Queue). IsBase tasks q.events q.most) (sym at)
+    subst (λ (q : Queue). HasRoom tasks q.events q.most) (sym at)
     (base_kept tasks tasks old.events (insert_event (record { time = due; key = old.made; what = what }) old.events) old.most is refl (events_insert (record { time = due; key = old.made; what = what }) old.events low none (is.once, is.below)))
 
 pub none_after_drop : (task : ℕ) (old now : Queue) → task < 256 → now ≡ record old { events = without_wait task old.events } → times task (numbers_of now.events) ≡ 0

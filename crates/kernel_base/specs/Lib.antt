@@ -1,3 +1,4 @@
+pub mod Ready
 pub mod Room
 pub mod Views
 pub mod Queues

@@ -5,7 +5,9 @@ use Rattle.tk_types.specs.declared.task.Event.{Event}
 use Rattle.tk_types.specs.declared.task.Event.TheVariants.{Wait, Cyclic, Alarm}
 use Rattle.tk_types.specs.declared.task.DueEvent.{DueEvent}
 use Rattle.tk_types.specs.declared.task.Release.{Release}
+use Rattle.ready_queue.specs.declared.places.ReadyTask.{ReadyTask}
 use Rattle.kernel_model.specs.Once.{AreBelow, IsOnce}
+use Rattle.kernel_base.specs.Ready.{IsQueued}
 
 -- an order of task IDs
 pub record IsOrder (ids : List ℕ) (capacity : ℕ) : Type 0 where
@@ -35,9 +37,14 @@ most_events = 768
 abbrev pub numbers_of : List DueEvent → List ℕ
 numbers_of events = map (λ event. number_of event.what) events
 
--- what holds of the base between its moves: a slot for each ID, and each event set once at most
-pub record IsBase (tasks : List (Option Task)) (events : List DueEvent) (most : ℕ) : Type 0 where
+-- a slot for each ID, and each event set once at most
+pub record HasRoom (tasks : List (Option Task)) (events : List DueEvent) (most : ℕ) : Type 0 where
   pub slots : length tasks ≡ 256
   pub once : IsOnce (numbers_of events)
   pub below : AreBelow most_events (numbers_of events)
   pub room : most ≡ most_events
+
+-- what holds of the base between its moves
+pub record IsBase (tasks : List (Option Task)) (order : List ℕ) (ready : List ReadyTask) (events : List DueEvent) (most : ℕ) : Type 0 where
+  pub room : HasRoom tasks events most
+  pub queue : IsQueued tasks order ready

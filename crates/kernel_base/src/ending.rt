@@ -1,6 +1,6 @@
 //! Tasks are made, started and ended.
 
-ghost use Rattle.std.specs.Prelude.{◌≡◌};
+ghost use Rattle.std.specs.Prelude.{◌≡◌, ◌≤◌};
 ghost use Rattle.kernel_model.specs.Base.{create, delete, gone, make_dormant, make_ready};
 
 use crate::base::Base;
@@ -18,12 +18,14 @@ pub(crate) fn gone(task: u8, cur: Option<u8>) -> Option<u8>
 
 impl Base {
     /// A new task, DORMANT. The stack's bytes were taken before.
+    /// The priority is from 1 to 140.
     pub fn create(&mut self, task: u8, pri: u8, stack: u32)
+        requires low { 1 ≤ pri }
+        requires high { pri ≤ 140 }
         ensures { self.new ≡ create self.old task pri stack }
     {
-        self.order.move_to_back(task);
+        self.write_last(task, created(pri, stack));
         self.since.move_to_back(task);
-        self.tasks[task as usize] = Some(created(pri, stack));
     }
 
     /// Makes a task's ID free again, and gives its stack's bytes back.
@@ -33,9 +35,8 @@ impl Base {
         let Some(row) = self.task(task) else {
             return;
         };
-        self.order.take_out(task);
+        self.erase(task);
         self.since.take_out(task);
-        self.tasks[task as usize] = None;
         self.bytes = self.bytes.saturating_sub(row.stack);
     }
 
@@ -43,11 +44,10 @@ impl Base {
     pub fn make_ready(&mut self, task: u8)
         ensures { self.new ≡ make_ready self.old task }
     {
-        let Some(row) = self.task(task) else {
+        let Some(row) = self.slot(task) else {
             return;
         };
-        self.order.move_to_back(task);
-        self.tasks[task as usize] = Some(readied(row));
+        self.write_last(task, readied(row));
     }
 
     /// A task ends: its wait is dropped with its event, its wake-up requests and suspensions are cleared, and its
@@ -55,11 +55,11 @@ impl Base {
     pub fn make_dormant(&mut self, task: u8)
         ensures { self.new ≡ make_dormant self.old task }
     {
-        let Some(row) = self.task(task) else {
+        let Some(row) = self.slot(task) else {
             return;
         };
+        self.write_stopped(task, ended(row));
         self.due.drop_wait(task);
-        self.tasks[task as usize] = Some(ended(row));
         self.cur = gone(task, self.cur);
     }
 }

@@ -8,12 +8,14 @@ mod ending;
 mod events;
 mod ids;
 mod priorities;
+mod queueing;
 mod reading;
 mod releases;
 mod rows;
 mod suspending;
 mod view;
 mod waiting;
+mod writing;
 
 pub use base::Base;
 pub use tk_types::{Event, Flags, Order, Release};

@@ -1,6 +1,6 @@
 //! Priorities, and precedence among equals.
 
-ghost use Rattle.std.specs.Prelude.{◌≡◌, slice_get};
+ghost use Rattle.std.specs.Prelude.{◌≡◌, ◌≤◌, slice_get};
 ghost use Rattle.kernel_model.specs.Base.{is_ready_with, ready_of, rotate, set_base, set_current};
 ghost use Rattle.kernel_model.specs.Orders.{to_back};
 ghost use Rattle.kernel_base.specs.Queues.{next_ready};
@@ -9,32 +9,35 @@ use crate::base::Base;
 use crate::rows::{with_base, with_current};
 
 impl Base {
-    /// Sets a task's base priority. It takes no new stamp.
+    /// Sets a task's base priority, from 1 to 140. It takes no new stamp.
     pub fn set_base(&mut self, task: u8, pri: u8)
+        requires low { 1 ≤ pri }
+        requires high { pri ≤ 140 }
         ensures { self.new ≡ set_base self.old task pri }
     {
-        let Some(row) = self.task(task) else {
+        let Some(row) = self.slot(task) else {
             return;
         };
-        self.tasks[task as usize] = Some(with_base(row, pri));
+        self.write_alike(task, with_base(row, pri));
     }
 
-    /// Sets a task's current priority: it is the last among its equals.
+    /// Sets a task's current priority, from 1 to 140: it is the last among its equals.
     pub fn set_current(&mut self, task: u8, pri: u8)
+        requires low { 1 ≤ pri }
+        requires high { pri ≤ 140 }
         ensures { self.new ≡ set_current self.old task pri }
     {
-        let Some(row) = self.task(task) else {
+        let Some(row) = self.slot(task) else {
             return;
         };
-        self.order.move_to_back(task);
-        self.tasks[task as usize] = Some(with_current(row, pri));
+        self.write_last(task, with_current(row, pri));
     }
 
     /// A task takes a new stamp: it is the last among its equals.
     pub fn restamp(&mut self, task: u8)
         ensures { self.new ≡ record self.old { order = to_back task self.old.order } }
     {
-        self.order.move_to_back(task);
+        self.move_to_back(task);
     }
 
     /// Whether a task is ready and has that priority.
@@ -49,7 +52,7 @@ impl Base {
         ensures { self.new ≡ rotate self.old pri }
     {
         if let Some(task) = self.first_ready(pri) {
-            self.order.move_to_back(task);
+            self.move_to_back(task);
         }
     }
 
@@ -57,16 +60,21 @@ impl Base {
     pub fn first_ready(&self, pri: u8) -> Option<u8>
         ensures { result ≡ slice_get (ready_of self.now pri) 0 }
     {
-        'tasks: for task in self.order.as_slice() {
-            if self.is_ready_with(pri, *task) {
-                return Some(*task);
-            }
-        }
-        None
+        self.ready.first_of(pri)
     }
 
     /// The ready task behind a ready one among those of its priority, or `None` where it is the last.
     pub fn next_ready(&self, task: u8) -> Option<u8>
+        ensures { result ≡ next_ready self.now task }
+    {
+        if self.ready.holds(task) {
+            return self.ready.next_of(task);
+        }
+        self.next_in_order(task)
+    }
+
+    /// The ready task behind one that isn't in the queue, among those of its priority, by the order of all tasks.
+    fn next_in_order(&self, task: u8) -> Option<u8>
         ensures { result ≡ next_ready self.now task }
     {
         let pri = self.current(task);

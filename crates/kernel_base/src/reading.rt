@@ -1,13 +1,13 @@
 //! What the base tells of its tasks.
 
-ghost use Rattle.std.specs.Prelude.{◌≡◌, ◌&&◌, ◌==◌, None, drop, length};
+ghost use Rattle.std.specs.Prelude.{◌≡◌, ◌≤◌, ◌&&◌, ◌==◌, None, drop, length, true};
 ghost use Rattle.kernel_model.specs.Base.{base_of, chosen, current, free_task, has_room, initial_of, is_dormant, is_dormant_phase, is_ready, is_ready_phase, is_waiting, is_waiting_phase, suspensions_of, task_at, waits_for, waits_in, wakeups_of};
-ghost use Rattle.kernel_model.specs.Choice.{best_of, better};
 ghost use Rattle.kernel_model.specs.Orders.{free_from};
 ghost use Rattle.kernel_model.specs.Views.{is_current};
 ghost use Rattle.std.specs.Option.{is_some};
 
 use crate::base::Base;
+use crate::queueing::first;
 use tk_types::{Phase, Task};
 
 /// Whether a task is ready or suspended out of being ready.
@@ -66,7 +66,7 @@ impl Base {
     pub fn task(&self, task: u8) -> Option<Task>
         ensures { result ≡ task_at self.now task }
     {
-        self.tasks[task as usize]
+        self.slot(task)
     }
 
     /// How many IDs there are: 256, with 0, which no task has.
@@ -144,31 +144,37 @@ impl Base {
         }
     }
 
-    /// The current priority of a task, 0 where it doesn't exist.
+    /// The current priority of a task, from 1 to 140, or 0 where it doesn't exist.
     pub fn current(&self, task: u8) -> u8
-        ensures { result ≡ current self.now task }
+        ensures priority { result ≡ current self.now task }
+        ensures low { is_some (task_at self.now task) ≡ true → 1 ≤ result }
+        ensures high { result ≤ 140 }
     {
-        match self.task(task) {
+        match self.slot(task) {
             None => 0,
             Some(row) => row.current,
         }
     }
 
-    /// The base priority of a task, 0 where it doesn't exist.
+    /// The base priority of a task, from 1 to 140, or 0 where it doesn't exist.
     pub fn base_of(&self, task: u8) -> u8
-        ensures { result ≡ base_of self.now task }
+        ensures priority { result ≡ base_of self.now task }
+        ensures low { is_some (task_at self.now task) ≡ true → 1 ≤ result }
+        ensures high { result ≤ 140 }
     {
-        match self.task(task) {
+        match self.slot(task) {
             None => 0,
             Some(row) => row.base,
         }
     }
 
-    /// The priority of a task's creation, 0 where it doesn't exist.
+    /// The priority of a task's creation, from 1 to 140, or 0 where it doesn't exist.
     pub fn initial_of(&self, task: u8) -> u8
-        ensures { result ≡ initial_of self.now task }
+        ensures priority { result ≡ initial_of self.now task }
+        ensures low { is_some (task_at self.now task) ≡ true → 1 ≤ result }
+        ensures high { result ≤ 140 }
     {
-        match self.task(task) {
+        match self.slot(task) {
             None => 0,
             Some(row) => row.initial,
         }
@@ -197,43 +203,12 @@ impl Base {
     }
 
     /// The task that dispatching chooses, or 0 where none is ready.
-    #[tactic(auto, using(kernel_model::proofs::Choice::chosen_is_best))]
     pub fn chosen(&self) -> u8
         ensures { result ≡ chosen self.now }
     {
-        match self.best_ready() {
+        match first(&self.ready) {
             None => 0,
             Some(task) => task,
-        }
-    }
-
-    /// The ready task of the least current priority, of equals the earliest.
-    fn best_ready(&self) -> Option<u8>
-        ensures { result ≡ best_of (is_ready self.now) (current self.now) None self.now.order }
-    {
-        let mut best = None;
-        'tasks: for task in self.order.as_slice() {
-            best = self.better(best, *task);
-        }
-        best
-    }
-
-    /// The better one of the best so far and a task behind it.
-    fn better(&self, best: Option<u8>, task: u8) -> Option<u8>
-        ensures { result ≡ better (is_ready self.now) (current self.now) best task }
-    {
-        if !self.is_ready(task) {
-            return best;
-        }
-        match best {
-            None => Some(task),
-            Some(other) => {
-                if self.current(task) < self.current(other) {
-                    Some(task)
-                } else {
-                    Some(other)
-                }
-            }
         }
     }
 }

@@ -6,6 +6,22 @@ ghost use Rattle.tk_types.specs.declared.task.Order.TheVariants.{Fifo};
 
 use tk_types::{Order, Phase, Task};
 
+/// The task that exists at the start: it is READY.
+pub(crate) fn booted(priority: u8) -> Task
+    ensures { result ≡ record { phase = Ready; queue = Fifo; base = priority; initial = priority; current = priority; wakeups = 0; suspensions = 0; stack = 1024 } }
+{
+    Task {
+        phase: Phase::Ready,
+        queue: Order::Fifo,
+        base: priority,
+        initial: priority,
+        current: priority,
+        wakeups: 0,
+        suspensions: 0,
+        stack: 1024,
+    }
+}
+
 /// A new task, DORMANT.
 pub(crate) fn created(priority: u8, stack: u32) -> Task
     ensures { result ≡ record { phase = Dormant; queue = Fifo; base = priority; initial = priority; current = priority; wakeups = 0; suspensions = 0; stack = stack } }

@@ -24,10 +24,10 @@ impl Base {
         requires { suspensions_of self.old task < 65535 }
         ensures { self.new ≡ suspend self.old task }
     {
-        let Some(row) = self.task(task) else {
+        let Some(row) = self.slot(task) else {
             return;
         };
-        self.tasks[task as usize] = Some(with_suspensions(row, row.suspensions + 1));
+        self.write_stopped(task, with_suspensions(row, row.suspensions + 1));
         self.cur = gone(task, self.cur);
     }
 
@@ -36,7 +36,7 @@ impl Base {
     pub fn resume(&mut self, task: u8, all: bool)
         ensures { self.new ≡ resume self.old task all }
     {
-        let Some(row) = self.task(task) else {
+        let Some(row) = self.slot(task) else {
             return;
         };
         if row.suspensions == 0 {
@@ -44,9 +44,10 @@ impl Base {
         }
         let left = left_of(row.suspensions, all);
         if is_ready_phase(row.phase) && left == 0 {
-            self.order.move_to_back(task);
+            self.write_last(task, with_suspensions(row, left));
+        } else {
+            self.write_stopped(task, with_suspensions(row, left));
         }
-        self.tasks[task as usize] = Some(with_suspensions(row, left));
     }
 
     /// Sets the wake-up requests of a task, at most 65,535.
@@ -54,9 +55,9 @@ impl Base {
         requires { n ≤ 65535 }
         ensures { self.new ≡ set_wakeups self.old task n }
     {
-        let Some(row) = self.task(task) else {
+        let Some(row) = self.slot(task) else {
             return;
         };
-        self.tasks[task as usize] = Some(with_wakeups(row, n as u16));
+        self.write_alike(task, with_wakeups(row, n as u16));
     }
 }

@@ -1,25 +1,29 @@
 //! Waits begin, move and end.
 
-ghost use Rattle.std.specs.Prelude.{◌≡◌, ◌<◌, ◌^◌};
-ghost use Rattle.kernel_model.specs.Base.{back_unless_suspended, make_wait, move_wait, release};
+ghost use Rattle.std.specs.Prelude.{◌≡◌, ◌<◌, ◌^◌, true};
+ghost use Rattle.kernel_model.specs.Base.{back_unless_suspended, make_wait, move_wait, release, with_task};
+ghost use Rattle.tk_types.specs.declared.task.Phase.TheVariants.{Ready};
+ghost use Rattle.kernel_base.specs.Ready.{has_priorities};
 
 use crate::base::Base;
 use crate::ending::gone;
-use crate::ids::Ids;
 use crate::reading::is_waiting_phase;
 use crate::rows::{readied, waiting};
-use tk_types::{Answer, Event, Order};
-
-/// A task that becomes READY takes the last place, unless it is suspended.
-fn back_unless_suspended(order: &mut Ids, task: u8, suspensions: u16)
-    ensures { order.new ≡ back_unless_suspended task suspensions order.old }
-{
-    if suspensions == 0 {
-        order.move_to_back(task);
-    }
-}
+use tk_types::{Answer, Event, Order, Task};
 
 impl Base {
+    /// A row becomes READY: its task takes the last place, unless it is suspended.
+    fn write_readied(&mut self, task: u8, row: Task)
+        requires { has_priorities row ≡ true }
+        ensures { self.new ≡ record (with_task self.old task (record row { phase = Ready })) { order = back_unless_suspended task row.suspensions self.old.order } }
+    {
+        if row.suspensions == 0 {
+            self.write_last(task, readied(row));
+        } else {
+            self.write_stopped(task, readied(row));
+        }
+    }
+
     /// A task begins to wait for an object, in the order of its queue, without a limit or for `tmout` milliseconds: it
     /// is due in the tick that makes the time one more than that. Where it was the current one, that is gone.
     pub fn make_wait(&mut self, task: u8, obj: u32, order: Order, tmout: i32)
@@ -27,13 +31,12 @@ impl Base {
         requires early { self.old.time < 2 ^ 63 }
         ensures { self.new ≡ make_wait self.old task obj order tmout }
     {
-        let Some(row) = self.task(task) else {
+        let Some(row) = self.slot(task) else {
             return;
         };
+        self.write_last(task, waiting(row, obj, order));
         self.due.drop_wait(task);
-        self.order.move_to_back(task);
         self.since.move_to_back(task);
-        self.tasks[task as usize] = Some(waiting(row, obj, order));
         self.cur = gone(task, self.cur);
         if tmout >= 0 {
             self.due
@@ -46,14 +49,14 @@ impl Base {
     pub fn move_wait(&mut self, task: u8, obj: u32, order: Order)
         ensures { self.new ≡ move_wait self.old task obj order }
     {
-        let Some(row) = self.task(task) else {
+        let Some(row) = self.slot(task) else {
             return;
         };
         if !is_waiting_phase(row.phase) {
             return;
         }
+        self.write_stopped(task, waiting(row, obj, order));
         self.due.drop_wait(task);
-        self.tasks[task as usize] = Some(waiting(row, obj, order));
     }
 
     /// A task's wait ends with an answer: it becomes READY, the last among its equals, or stays suspended. The end is
@@ -61,15 +64,14 @@ impl Base {
     pub fn release(&mut self, task: u8, answer: Answer)
         ensures { self.new ≡ release self.old task answer }
     {
-        let Some(row) = self.task(task) else {
+        let Some(row) = self.slot(task) else {
             return;
         };
         if !is_waiting_phase(row.phase) {
             return;
         }
+        self.write_readied(task, row);
         self.due.drop_wait(task);
-        back_unless_suspended(&mut self.order, task, row.suspensions);
-        self.tasks[task as usize] = Some(readied(row));
         self.released.record(task, answer);
     }
 }

@@ -121,6 +121,10 @@ others_stay t tasks changed order same = ready_elsewhere t tasks changed order s
 pub written_last : (t : ℕ) (tasks changed : List (Option Task)) (order : List ℕ) → AreSameBut t tasks changed → runs_in changed t ≡ true → ready_in changed (to_back t order) ≡ insert_behind (priority_in changed) t (without t (ready_in tasks order))
 written_last t tasks changed order same runs = ready_last t changed order runs ∙ ap (insert_behind (priority_in changed) t) (others_stay t tasks changed order same)
 
+-- the order alone changes: a task that may run takes the last place
+pub moved_last : (t : ℕ) (tasks : List (Option Task)) (order : List ℕ) → runs_in tasks t ≡ true → ready_in tasks (to_back t order) ≡ insert_behind (priority_in tasks) t (without t (ready_in tasks order))
+moved_last t tasks order runs = written_last t tasks tasks order (record { elsewhere = λ n differs. refl }) runs
+
 -- a row is written that may not run, and the task takes the last place
 pub stopped_to_last : (t : ℕ) (tasks changed : List (Option Task)) (order : List ℕ) → AreSameBut t tasks changed → runs_in changed t ≡ false → ready_in changed (to_back t order) ≡ without t (ready_in tasks order)
 stopped_to_last t tasks changed order same stops = stopped_last t changed order stops ∙ others_stay t tasks changed order same
@@ -133,7 +137,7 @@ stopped_in_place t tasks changed order same stops = sym (ready_left t changed or
 pub deleted_from : (t : ℕ) (tasks changed : List (Option Task)) (order : List ℕ) → AreSameBut t tasks changed → ready_in changed (without t order) ≡ without t (ready_in tasks order)
 deleted_from t tasks changed order same = others_stay t tasks changed order same
 
-alike_at : {A : Type 0} (of : Option Task → A) (t : ℕ) (tasks changed : List (Option Task)) (n : ℕ) (b : Bool) → (n == t) ≡ b → AreSameBut t tasks changed → of (entry changed t) ≡ of (entry tasks t) → of (entry changed n) ≡ of (entry tasks n)
+pub alike_at : {A : Type 0} (of : Option Task → A) (t : ℕ) (tasks changed : List (Option Task)) (n : ℕ) (b : Bool) → (n == t) ≡ b → AreSameBut t tasks changed → of (entry changed t) ≡ of (entry tasks t) → of (entry changed n) ≡ of (entry tasks n)
 alike_at of t tasks changed n true is same here = let at : n ≡ t = same_test n t is in rw at here
 alike_at of t tasks changed n false is same here = ap of (same.elsewhere n (other_is n t false is refl))
 

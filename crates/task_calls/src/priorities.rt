@@ -1,6 +1,8 @@
 //! Priorities change, and ready tasks are rotated.
 
-ghost use Rattle.std.specs.Prelude.{◌≡◌, ◌≤ℤ◌, pos};
+ghost use Rattle.std.specs.Prelude.{◌≡◌, ◌≤◌, ◌≤ℤ◌, pos, true};
+ghost use Rattle.std.specs.Option.{is_some};
+ghost use Rattle.kernel_model.specs.Base.{task_at};
 ghost use Rattle.kernel_model.specs.TaskCalls.{change_priority, new_base, rebased, rotate_ready, rotated_priority};
 
 use crate::names::named_task;
@@ -8,11 +10,14 @@ use kernel_base::Base;
 use kernel_base::answers::{done, failed};
 use tk_types::{Er, Outcome, Who};
 
-/// The new base priority: 0 is the initial one.
+/// The new base priority of a task that exists: 0 is the initial one.
 fn new_base(base: &Base, task: u8, priority: i32) -> u8
     requires low { pos 0 ≤ℤ priority }
     requires high { priority ≤ℤ pos 140 }
-    ensures { result ≡ new_base base.now task priority }
+    requires exists { is_some (task_at base.now task) ≡ true }
+    ensures priority { result ≡ new_base base.now task priority }
+    ensures lowest { 1 ≤ result }
+    ensures highest { result ≤ 140 }
 {
     if priority == 0 {
         return base.initial_of(task);
@@ -20,9 +25,11 @@ fn new_base(base: &Base, task: u8, priority: i32) -> u8
     priority as u8
 }
 
-/// Sets a task's base priority. Where the current priority keeps its value and equals the base, the task takes a new
+/// Sets a task's base priority, from 1 to 140. Where the current priority keeps its value and equals the base, the task takes a new
 /// stamp; where it is to change, settling does that.
 fn rebase(base: &mut Base, task: u8, priority: u8)
+    requires low { 1 ≤ priority }
+    requires high { priority ≤ 140 }
     ensures { base.new ≡ rebased base.old task priority }
 {
     let keeps = base.current(task) == priority;

@@ -1,6 +1,7 @@
 //! The state of a run: the kernel's parts, and what the script's bodies have come to.
 
 ghost use Rattle.std.specs.Prelude.{◌≡◌, IfOk, replicate, slice_set, unwrap_or};
+ghost use Rattle.kernel_model.specs.Statements.{IsRunnable};
 ghost use Rattle.kernel_model.specs.State.{frame_of, no_frame, state_start, with_frame};
 
 use kernel_base::Base;
@@ -59,6 +60,7 @@ impl Kernel {
     /// The start: task 1 is READY, at the start of the boot body.
     #[tactic(auto, unfolding(kernel_model::specs::State::state_start))]
     pub(crate) fn new(alloc: Global, script: &Script) -> Result<Kernel, AllocError>
+        requires { IsRunnable script.now }
         ensures { IfOk result (λ kernel. kernel ≡ state_start script.now) }
     {
         let body = script.boot.body;

@@ -1,6 +1,8 @@
 //! What follows each event: settling, the lines of the waits that ended, and the dispatch.
 
-ghost use Rattle.std.specs.Prelude.{◌≡◌, ◌++◌, OnOk};
+ghost use Rattle.std.specs.Prelude.{◌≡◌, ◌≤◌, ◌++◌, OnOk, true};
+ghost use Rattle.std.specs.Option.{is_some};
+ghost use Rattle.kernel_model.specs.Base.{task_at};
 ghost use Rattle.tk_types.specs.declared.call_name.CallName.{CallName};
 ghost use Rattle.kernel_model.specs.Priority.{current_of, refresh, resettle};
 ghost use Rattle.kernel_model.specs.Settle.{dispatched, follow_release, followed, release_line, settle, with_releases};
@@ -13,7 +15,9 @@ use tk_types::{CallName, Line, Script};
 
 /// The current priority of a task by definition.
 fn current_of(base: &Base, task: u8) -> u8
-    ensures { result ≡ current_of base.now task }
+    ensures priority { result ≡ current_of base.now task }
+    ensures low { is_some (task_at base.now task) ≡ true → 1 ≤ result }
+    ensures high { result ≤ 140 }
 {
     base.base_of(task)
 }

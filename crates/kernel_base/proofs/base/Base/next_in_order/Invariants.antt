@@ -2,7 +2,7 @@ use Rattle.std.proofs.Common.{◌≡◌, drop, cond}
 use Rattle.std.specs.Prelude.{filter, slice_get}
 use Rattle.kernel_model.specs.Base.{is_ready_with}
 use Rattle.kernel_base.specs.Queues.{behind, next_ready}
-use Rattle.kernel_base.proofs.base.Base.next_ready.Given as goal
+use Rattle.kernel_base.proofs.base.Base.next_in_order.Given as goal
 
 -- what is left to look at behind the task has the one that is looked for first
 abbrev pub invariant-tasks : goal.invariant-tasks
