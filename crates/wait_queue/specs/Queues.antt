@@ -1,5 +1,6 @@
 -- The waiters of all objects in one list. Those of one object, in the order in which they stand, are its queue.
-use Rattle.std.specs.Prelude.{ℕ, Bool, false, not, ◌==◌, ◌&&◌, nat_lt, if◌then◌else◌, List, [], ◌∷◌, Option, Some, None, map, filter}
+use Rattle.std.specs.Prelude.{ℕ, Bool, false, not, ◌==◌, ◌&&◌, nat_lt, if◌then◌else◌, List, [], ◌∷◌, Option, Some, None, map, filter, slice_get}
+use Rattle.std.specs.Option.{option_map}
 use Rattle.std.specs.List.{list_any}
 use Rattle.tk_types.specs.declared.task.Order.{Order}
 use Rattle.tk_types.specs.declared.task.Order.TheVariants.{Fifo, Priority}
@@ -83,3 +84,7 @@ abbrev pub next_waiter : ℕ → List Waiter → Option ℕ
 next_waiter task [] = None
 next_waiter task (first ∷ rest) =
     if is_of_task task first then first_task (queue_of first.object rest) else next_waiter task rest
+
+-- the task in that place of an object's queue, from 0 on
+abbrev pub task_in_place : ℕ → ℕ → List Waiter → Option ℕ
+task_in_place object place list = option_map (λ waiter. waiter.task) (slice_get (queue_of object list) place)

@@ -1,18 +1,21 @@
 //! The waiters of all objects.
 
-ghost use Rattle.std.specs.Prelude.{◌≡◌, ◌<◌, ◌≤◌, IfOk, [], false, true};
+ghost use Rattle.std.specs.Prelude.{◌≡◌, ◌<◌, ◌≤◌, IfOk, [], false, length, true};
 ghost use Rattle.wait_queue.specs.Queues.{
   first_task,
   joined,
   next_waiter,
   queue_of,
   reordered,
+  task_in_place,
   waits,
   without_waiter,
 };
 ghost use Rattle.wait_queue.specs.Facts.{AreOfOrder};
 
-use crate::waiters::{Sought, Waiter, first_of, first_place, index_of, put, with_priority};
+use crate::waiters::{
+    Sought, Waiter, count_of, first_of, first_place, index_of, put, task_in_place, with_priority,
+};
 use std::alloc::{AllocError, Global};
 use std::marker::Model;
 use std::sync::ledger::Ledger;
@@ -131,6 +134,22 @@ impl Waits {
             None => None,
             Some(index) => first_of(&self.waiters[index + 1..], self.waiters[index].object),
         }
+    }
+
+    /// How many tasks wait for an object.
+    pub fn count(&self, obj: u32) -> usize
+        requires { obj < self.now.objects }
+        ensures { result ≡ length (queue_of obj self.now.waiters) }
+    {
+        count_of(self.waiters.as_slice(), obj)
+    }
+
+    /// The task in a place of an object's queue, from 0 on, if there is one.
+    pub fn in_place(&self, obj: u32, place: usize) -> Option<u8>
+        requires { obj < self.now.objects }
+        ensures { result ≡ task_in_place obj place self.now.waiters }
+    {
+        task_in_place(self.waiters.as_slice(), obj, place)
     }
 
     /// Whether a task waits.

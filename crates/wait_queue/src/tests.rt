@@ -10,12 +10,13 @@ use std::test::Fail;
 use step_counter::Steps;
 use tk_types::Order;
 
-/// The first tasks of objects 0 and 1, and the one behind task 5.
+/// The first tasks of objects 0 and 1, the one behind task 5, and the last of object 0.
 #[derive(Clone, Copy, Debug, PartialEq, Eq)]
 struct Heads {
     first: Option<u8>,
     second: Option<u8>,
     behind: Option<u8>,
+    last: Option<u8>,
 }
 
 fn heads_of(waits: &Waits) -> Heads {
@@ -32,6 +33,11 @@ fn heads_of(waits: &Waits) -> Heads {
         },
         behind: if waits.waits(5) {
             waits.next_after(5)
+        } else {
+            None
+        },
+        last: if waits.objects() > 0 {
+            waits.in_place(0, waits.count(0).saturating_sub(1))
         } else {
             None
         },
@@ -70,11 +76,13 @@ fn tasks_wait_in_order(rt: HostRuntime) -> Result<(), AllocError> {
         first: Some(5),
         second: None,
         behind: Some(6),
+        last: Some(6),
     };
     let alone = Heads {
         first: Some(5),
         second: None,
         behind: None,
+        last: Some(5),
     };
     assert_eq!(rt; joined, in_turn);
     assert_eq!(rt; reordered, in_turn);
@@ -93,16 +101,19 @@ fn tasks_wait_by_priority(rt: HostRuntime) -> Result<(), AllocError> {
         first: Some(5),
         second: None,
         behind: Some(6),
+        last: Some(6),
     };
     let behind = Heads {
         first: Some(6),
         second: None,
         behind: None,
+        last: Some(5),
     };
     let alone = Heads {
         first: Some(5),
         second: None,
         behind: None,
+        last: Some(5),
     };
     assert_eq!(rt; joined, in_turn);
     assert_eq!(rt; reordered, behind);

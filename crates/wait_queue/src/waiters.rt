@@ -2,7 +2,7 @@
 
 ghost use Rattle.std.specs.Prelude.{◌≡◌, ◌<◌, ◌≤◌, length, vec_capacity, vec_len};
 ghost use Rattle.std.specs.List.{position, position_or_len};
-ghost use Rattle.wait_queue.specs.Queues.{first_task, is_ahead, joined, queue_of, with_priority};
+ghost use Rattle.wait_queue.specs.Queues.{first_task, is_ahead, joined, queue_of, task_in_place, with_priority};
 ghost use Rattle.wait_queue.specs.Sought.{is_sought};
 
 use std::sync::ledger::Ledger;
@@ -111,4 +111,34 @@ pub fn put<L: Ledger>(waiters: &mut Vec<Waiter>, waiter: Waiter, steps: &mut Ste
 {
     let index = place_for(waiters.as_slice(), waiter, steps);
     let _ = waiters.insert(index, waiter);
+}
+
+/// How many of the waiters wait for an object.
+pub fn count_of(waiters: &[Waiter], object: u32) -> usize
+    ensures count { result ≡ length (queue_of object waiters.now) }
+    ensures within { result ≤ length waiters.now }
+{
+    let mut count = 0;
+    'places: for waiter in waiters {
+        if waiter.object == object {
+            count += 1;
+        }
+    }
+    count
+}
+
+/// The task in a place of an object's queue, from 0 on, if there is one.
+pub fn task_in_place(waiters: &[Waiter], object: u32, place: usize) -> Option<u8>
+    ensures { result ≡ task_in_place object place waiters.now }
+{
+    let mut left = place;
+    'places: for waiter in waiters {
+        if waiter.object == object {
+            if left == 0 {
+                return Some(waiter.task);
+            }
+            left -= 1;
+        }
+    }
+    None
 }
