@@ -3,6 +3,7 @@
 ghost use Rattle.std.specs.Prelude.{◌≤◌};
 
 use crate::call;
+use crate::sleeping::SLEEP;
 use kernel_base::answers::{done, failed};
 use kernel_base::{Base, Order};
 use std::alloc::{AllocError, Global};
@@ -30,7 +31,7 @@ fn set_stage(base: &mut Base, stage: Stage)
         Stage::Absent => base.delete(2),
         Stage::Dormant => {}
         Stage::Ready => base.make_ready(2),
-        Stage::Sleeping => base.make_wait(2, 0, Order::Fifo, -1),
+        Stage::Sleeping => base.make_wait(2, SLEEP, Order::Fifo, -1),
         Stage::Suspended => {
             base.make_ready(2);
             base.suspend(2);
@@ -113,7 +114,10 @@ fn calls_do_their_work(rt: HostRuntime) -> Result<(), AllocError> {
 
 #[test]
 fn calls_are_refused(rt: HostRuntime) -> Result<(), AllocError> {
-    let attributes = Attributes::of_bits(64);
+    let attributes = Attributes {
+        ta_tfifo: true,
+        ..Attributes::of_bits(0)
+    };
     let made = TaskCall::CreTsk {
         attributes,
         body: 1,

@@ -1,6 +1,6 @@
 //! Small scripts, run to each of their ends.
 
-ghost use Rattle.std.specs.Prelude.{◌≡◌, ◌≤◌, IfOk};
+ghost use Rattle.std.specs.Prelude.{IfOk};
 ghost use Rattle.kernel_model.specs.Statements.{IsRunnable};
 
 use crate::{Machine, Pace};
