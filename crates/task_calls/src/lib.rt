@@ -9,6 +9,8 @@ mod priorities;
 mod releasing;
 mod sleeping;
 mod suspending;
+#[cfg(test)]
+mod tests;
 mod waking;
 
 ghost use Rattle.std.specs.Prelude.{◌≡◌, ◌<◌, ◌^◌};

@@ -7,6 +7,8 @@ mod machine;
 mod running;
 mod settling;
 mod stepping;
+#[cfg(test)]
+mod tests;
 mod ticks;
 
 pub use machine::{Machine, Pace};
