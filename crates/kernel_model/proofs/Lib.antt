@@ -18,3 +18,5 @@ pub mod Filters
 pub mod Queues
 pub mod TickEnds
 pub mod Lasting
+pub mod Picks
+pub mod Trial

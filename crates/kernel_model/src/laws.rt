@@ -1,6 +1,6 @@
 //! Laws of the definitions, each the contract of a function that does nothing.
 
-ghost use Rattle.std.specs.Prelude.{◌≡◌, ℕ, suc, ◌+◌, ◌<◌, ◌≤◌, ◌==◌, if◌then◌else◌, filter, Bool, false, true, pos, List, ◌∷◌, ◌++◌, None, Some};
+ghost use Rattle.std.specs.Prelude.{◌≡◌, ℕ, suc, ◌+◌, ◌<◌, ◌≤◌, ◌==◌, if◌then◌else◌, filter, Bool, false, true, ℤ, pos, List, length, ◌∷◌, ◌++◌, None, Some};
 ghost use Rattle.std.specs.Int.{is_negative};
 ghost use Rattle.tk_types.specs.declared.answer.Answer.{Answer};
 ghost use Rattle.tk_types.specs.declared.answer.Outcome.TheVariants.{Returned};
@@ -12,6 +12,9 @@ ghost use Rattle.tk_types.specs.declared.task.Event.TheVariants.{Wait};
 ghost use Rattle.tk_types.specs.declared.task.Order.{Order};
 ghost use Rattle.tk_types.specs.declared.task.Phase.TheVariants.{Ready};
 ghost use Rattle.tk_types.specs.declared.task.Task.{Task};
+ghost use Rattle.kernel_model.specs.declared.objects.EventFlag.{EventFlag};
+ghost use Rattle.kernel_model.specs.declared.objects.FlagWish.{FlagWish};
+ghost use Rattle.kernel_model.specs.declared.objects.Semaphore.{Semaphore};
 ghost use Rattle.kernel_model.specs.Base.{Base, chosen, current, dispatch, is_ready, is_waiting, is_waiting_phase, make_ready, make_wait, queue, ready_list, ready_of, release, resume, suspensions_of, task_at};
 ghost use Rattle.kernel_model.specs.Events.{due_event, insert_event, limit_of};
 ghost use Rattle.kernel_model.specs.Once.{IsOnce, times};
@@ -19,10 +22,13 @@ ghost use Rattle.kernel_model.specs.Orders.{without};
 ghost use Rattle.kernel_model.specs.Precedence.{KeepsPlace, NoneReady, Precedes, StandsLast, gives_place_away};
 ghost use Rattle.kernel_model.specs.Priority.{current_of, resettle};
 ghost use Rattle.kernel_model.specs.Rising.{IsRisingBy};
+ghost use Rattle.kernel_model.specs.SemFlagCalls.{waited_for_flag, waited_for_sem};
+ghost use Rattle.kernel_model.specs.SemFlags.{SemFlags, flag_at, sem_at, serve_flag, serve_sem};
 ghost use Rattle.kernel_model.specs.State.{State};
 ghost use Rattle.kernel_model.specs.TaskCalls.{task_call};
 ghost use Rattle.kernel_model.specs.Ticks.{tick_state};
 ghost use Rattle.kernel_model.specs.TimeOrder.{AreDueBy, AreInTimeOrder, AreLater, ComesAfter, after_ticks, after_time};
+ghost use Rattle.kernel_model.specs.Trial.{MayWait, flag_trial, sem_trial};
 ghost use Rattle.kernel_model.specs.Waiters.{waiting_count};
 
 /// Dispatching chooses the ready task of the highest priority, and of equals the one whose stamp is the
@@ -129,4 +135,16 @@ pub fn a_release_ends_one_wait()
     ensures over { (b : Base) (t : ℕ) (result : Answer) → is_waiting (release b t result) t ≡ false }
     ensures one { (b : Base) (t : ℕ) (result : Answer) → is_waiting b t ≡ true → waiting_count b ≡ waiting_count (release b t result) + 1 }
     ensures queues { (order : Order) (b : Base) (t object : ℕ) (result : Answer) → queue order (release b t result) object ≡ without t (queue order b object) }
+{}
+
+/// A waiting call is its trial: what a semaphore or an event flag decides for its caller is what comes of it when the
+/// caller joins the waiters and the object serves one, if it can. The caller is ready and has a place in the table of what
+/// tasks ask for, and the object is settled: before the call it could serve nobody.
+pub fn a_waiting_call_is_its_trial()
+    ensures semaphore { (b : Base) (s : SemFlags) (t id n : ℕ) (timeout : ℤ) (k : Semaphore) → MayWait b t →
+        sem_at s id ≡ Some k → t < length s.counts → serve_sem b s id ≡ None →
+        waited_for_sem b s t id n timeout (Some k) ≡ sem_trial b s t id n timeout k }
+    ensures event_flag { (b : Base) (s : SemFlags) (t id : ℕ) (wish : FlagWish) (timeout : ℤ) (k : EventFlag) → MayWait b t →
+        flag_at s id ≡ Some k → t < length s.wishes → serve_flag b s id ≡ None →
+        waited_for_flag b s t id wish timeout (Some k) ≡ flag_trial b s t id wish timeout k }
 {}
