@@ -1,17 +1,14 @@
 -- Semaphores and event flags: their tables, who can be served, and what serving does.
-use Rattle.std.specs.Prelude.{ℕ, ◌+◌, ◌-◌, ◌==◌, Bool, true, false, not, ◌&&◌, ◌||◌, nat_le, nat_lt, if◌then◌else◌, ℤ, pos, List, [], ◌∷◌, Option, Some, None, replicate, slice_set, slice_index, bit_and, bit_or, bit_xor}
+use Rattle.std.specs.Prelude.{ℕ, ◌+◌, ◌-◌, ◌==◌, Bool, true, false, not, nat_le, if◌then◌else◌, pos, List, [], ◌∷◌, Option, Some, None, replicate, slice_set, slice_index, bit_and, bit_xor}
 use Rattle.std.specs.List.{find, slice_index_or}
-use Rattle.std.specs.Option.{option_map}
 use Rattle.std.specs.Int.{w32, cast_signed}
-use Rattle.tk_types.specs.declared.task.Order.{Order}
 use Rattle.tk_types.specs.declared.answer.Answer.{Answer}
-use Rattle.tk_types.specs.declared.modes.FlagMode.{FlagMode}
 use Rattle.kernel_model.specs.declared.objects.Semaphore.{Semaphore}
 use Rattle.kernel_model.specs.declared.objects.EventFlag.{EventFlag}
 use Rattle.kernel_model.specs.declared.objects.FlagWish.{FlagWish}
 use Rattle.kernel_model.specs.Orders.{entry}
 use Rattle.kernel_model.specs.Checks.{answer, plain}
-use Rattle.kernel_model.specs.Base.{Base, current, queue, release}
+use Rattle.kernel_model.specs.Base.{Base, queue, release}
 
 pub record SemFlags : Type 0 where
   pub sems : List (Option Semaphore)  -- by ID, 65 slots

@@ -3,7 +3,6 @@
 -- If not, with a time-out of 0 everything is as before the call, and the answer is E_TMOUT; else the task waits.
 -- `SemFlagCalls` decides at the object without a trial; the law `a_waiting_call_is_its_trial` ties the two.
 use Rattle.std.specs.Prelude.{ℕ, ◌≡◌, Bool, true, false, if◌then◌else◌, ℤ, pos, Option, Some, None, slice_set}
-use Rattle.tk_types.specs.declared.answer.Outcome.{Outcome}
 use Rattle.tk_types.specs.declared.answer.Outcome.TheVariants.{Returned}
 use Rattle.tk_types.specs.declared.task.Task.{Task}
 use Rattle.tk_types.specs.declared.task.Phase.TheVariants.{Ready}
@@ -13,7 +12,7 @@ use Rattle.kernel_model.specs.declared.objects.FlagWish.{FlagWish}
 use Rattle.kernel_model.specs.Checks.{done}
 use Rattle.kernel_model.specs.Events.{without_wait}
 use Rattle.kernel_model.specs.Base.{Base, task_at, is_waiting, make_wait}
-use Rattle.kernel_model.specs.SemFlags.{SemFlags, SemFlagParts, sem_object, flag_object, sem_at, flag_at, serve_sem, serve_flag, flag_answer}
+use Rattle.kernel_model.specs.SemFlags.{SemFlags, SemFlagParts, sem_object, flag_object, serve_sem, serve_flag, flag_answer}
 use Rattle.kernel_model.specs.SemFlagCalls.{SemFlagDone, waits_or_ends}
 
 -- the caller goes on as if it hadn't joined: its row, its places, what is set for a time and what was released are as before
