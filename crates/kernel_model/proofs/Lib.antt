@@ -19,4 +19,5 @@ pub mod Queues
 pub mod TickEnds
 pub mod Lasting
 pub mod Picks
+pub mod Serving
 pub mod Trial

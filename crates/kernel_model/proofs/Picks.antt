@@ -28,10 +28,10 @@ apart_if : (t id more : ℕ) (test : Bool) → (id == t) ≡ test → cond test 
 apart_if t id more true is none same = omega (arith, none)
 apart_if t id more false is none same = grind (arith, nat_tests, is, same)
 
-apart_from_first : (t id : ℕ) (ids : List ℕ) → times t (id ∷ ids) ≡ 0 → id ≡ t → ⊥
+pub apart_from_first : (t id : ℕ) (ids : List ℕ) → times t (id ∷ ids) ≡ 0 → id ≡ t → ⊥
 apart_from_first t id ids none = apart_if t id (times t ids) (id == t) refl none
 
-apart_from_rest : (t id : ℕ) (ids : List ℕ) → times t (id ∷ ids) ≡ 0 → times t ids ≡ 0
+pub apart_from_rest : (t id : ℕ) (ids : List ℕ) → times t (id ∷ ids) ≡ 0 → times t ids ≡ 0
 apart_from_rest t id ids none = omega (arith, none)
 
 -- ---- a list of which nobody passes

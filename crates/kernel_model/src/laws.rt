@@ -7,6 +7,7 @@ ghost use Rattle.tk_types.specs.declared.answer.Outcome.TheVariants.{Returned};
 ghost use Rattle.tk_types.specs.declared.answer.Who.{Who};
 ghost use Rattle.tk_types.specs.declared.answer.Who.TheVariants as whos;
 ghost use Rattle.tk_types.specs.declared.calls.TaskCall.{TaskCall};
+ghost use Rattle.tk_types.specs.declared.error_code.Er.TheVariants as er;
 ghost use Rattle.tk_types.specs.declared.task.DueEvent.{DueEvent};
 ghost use Rattle.tk_types.specs.declared.task.Event.TheVariants.{Wait};
 ghost use Rattle.tk_types.specs.declared.task.Order.{Order};
@@ -16,14 +17,15 @@ ghost use Rattle.kernel_model.specs.declared.objects.EventFlag.{EventFlag};
 ghost use Rattle.kernel_model.specs.declared.objects.FlagWish.{FlagWish};
 ghost use Rattle.kernel_model.specs.declared.objects.Semaphore.{Semaphore};
 ghost use Rattle.kernel_model.specs.Base.{Base, chosen, current, dispatch, is_ready, is_waiting, is_waiting_phase, make_ready, make_wait, queue, ready_list, ready_of, release, resume, suspensions_of, task_at};
+ghost use Rattle.kernel_model.specs.Checks.{failed};
 ghost use Rattle.kernel_model.specs.Events.{due_event, insert_event, limit_of};
 ghost use Rattle.kernel_model.specs.Once.{IsOnce, times};
 ghost use Rattle.kernel_model.specs.Orders.{without};
 ghost use Rattle.kernel_model.specs.Precedence.{KeepsPlace, NoneReady, Precedes, StandsLast, gives_place_away};
 ghost use Rattle.kernel_model.specs.Priority.{current_of, resettle};
 ghost use Rattle.kernel_model.specs.Rising.{IsRisingBy};
-ghost use Rattle.kernel_model.specs.SemFlagCalls.{waited_for_flag, waited_for_sem};
-ghost use Rattle.kernel_model.specs.SemFlags.{SemFlags, flag_at, sem_at, serve_flag, serve_sem};
+ghost use Rattle.kernel_model.specs.SemFlagCalls.{serves_at_once, waited_for_flag, waited_for_sem};
+ghost use Rattle.kernel_model.specs.SemFlags.{SemFlagParts, SemFlags, flag_at, has_bits, sem_at, serve_flag, serve_sem};
 ghost use Rattle.kernel_model.specs.State.{State};
 ghost use Rattle.kernel_model.specs.TaskCalls.{task_call};
 ghost use Rattle.kernel_model.specs.Ticks.{tick_state};
@@ -147,4 +149,23 @@ pub fn a_waiting_call_is_its_trial()
     ensures event_flag { (b : Base) (s : SemFlags) (t id : ℕ) (wish : FlagWish) (timeout : ℤ) (k : EventFlag) → MayWait b t →
         flag_at s id ≡ Some k → t < length s.wishes → serve_flag b s id ≡ None →
         waited_for_flag b s t id wish timeout (Some k) ≡ flag_trial b s t id wish timeout k }
+{}
+
+/// With a time-out of 0 a waiting call that isn't served changes nothing: where a semaphore doesn't have the count that is
+/// asked for, or somebody stands before who has to be served first, and where an event flag doesn't have the bits, the
+/// answer is E_TMOUT, and the base and the tables are as they were.
+pub fn a_time_out_of_zero_changes_nothing()
+    ensures semaphore { (b : Base) (s : SemFlags) (t id n : ℕ) (k : Semaphore) → serves_at_once b k id t n ≡ false →
+        waited_for_sem b s t id n (pos 0) (Some k) ≡ record { base = b; table = s; outcome = failed er.TmOut } }
+    ensures event_flag { (b : Base) (s : SemFlags) (t id : ℕ) (wish : FlagWish) (k : EventFlag) → has_bits k.pattern wish ≡ false →
+        waited_for_flag b s t id wish (pos 0) (Some k) ≡ record { base = b; table = s; outcome = failed er.TmOut } }
+{}
+
+/// A serving of a semaphore or of an event flag ends one wait and no more: one task fewer waits than before. So serving
+/// until none can be served, which is what settling does, comes to an end.
+pub fn settling_serves_until_none_can_be()
+    ensures semaphore { (b : Base) (s : SemFlags) (id : ℕ) (parts : SemFlagParts) → serve_sem b s id ≡ Some parts →
+        waiting_count b ≡ waiting_count parts.base + 1 }
+    ensures event_flag { (b : Base) (s : SemFlags) (id : ℕ) (parts : SemFlagParts) → serve_flag b s id ≡ Some parts →
+        waiting_count b ≡ waiting_count parts.base + 1 }
 {}
