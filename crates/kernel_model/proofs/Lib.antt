@@ -18,3 +18,6 @@ pub mod Filters
 pub mod Queues
 pub mod TickEnds
 pub mod Lasting
+pub mod Picks
+pub mod Serving
+pub mod Trial

@@ -11,6 +11,9 @@ pub mod Priority
 pub mod TaskCalls
 pub mod Precedence
 pub mod Waiters
+pub mod SemFlags
+pub mod SemFlagCalls
+pub mod Trial
 pub mod Statements
 pub mod State
 pub mod Settle

@@ -1,28 +1,36 @@
 //! Laws of the definitions, each the contract of a function that does nothing.
 
-ghost use Rattle.std.specs.Prelude.{◌≡◌, ℕ, suc, ◌+◌, ◌<◌, ◌≤◌, ◌==◌, if◌then◌else◌, filter, Bool, false, true, pos, List, ◌∷◌, ◌++◌, None, Some};
+ghost use Rattle.std.specs.Prelude.{◌≡◌, ℕ, suc, ◌+◌, ◌<◌, ◌≤◌, ◌==◌, if◌then◌else◌, filter, Bool, false, true, ℤ, pos, List, length, ◌∷◌, ◌++◌, None, Some};
 ghost use Rattle.std.specs.Int.{is_negative};
 ghost use Rattle.tk_types.specs.declared.answer.Answer.{Answer};
 ghost use Rattle.tk_types.specs.declared.answer.Outcome.TheVariants.{Returned};
 ghost use Rattle.tk_types.specs.declared.answer.Who.{Who};
 ghost use Rattle.tk_types.specs.declared.answer.Who.TheVariants as whos;
 ghost use Rattle.tk_types.specs.declared.calls.TaskCall.{TaskCall};
+ghost use Rattle.tk_types.specs.declared.error_code.Er.TheVariants as er;
 ghost use Rattle.tk_types.specs.declared.task.DueEvent.{DueEvent};
 ghost use Rattle.tk_types.specs.declared.task.Event.TheVariants.{Wait};
 ghost use Rattle.tk_types.specs.declared.task.Order.{Order};
 ghost use Rattle.tk_types.specs.declared.task.Phase.TheVariants.{Ready};
 ghost use Rattle.tk_types.specs.declared.task.Task.{Task};
+ghost use Rattle.kernel_model.specs.declared.objects.EventFlag.{EventFlag};
+ghost use Rattle.kernel_model.specs.declared.objects.FlagWish.{FlagWish};
+ghost use Rattle.kernel_model.specs.declared.objects.Semaphore.{Semaphore};
 ghost use Rattle.kernel_model.specs.Base.{Base, chosen, current, dispatch, is_ready, is_waiting, is_waiting_phase, make_ready, make_wait, queue, ready_list, ready_of, release, resume, suspensions_of, task_at};
+ghost use Rattle.kernel_model.specs.Checks.{failed};
 ghost use Rattle.kernel_model.specs.Events.{due_event, insert_event, limit_of};
 ghost use Rattle.kernel_model.specs.Once.{IsOnce, times};
 ghost use Rattle.kernel_model.specs.Orders.{without};
 ghost use Rattle.kernel_model.specs.Precedence.{KeepsPlace, NoneReady, Precedes, StandsLast, gives_place_away};
 ghost use Rattle.kernel_model.specs.Priority.{current_of, resettle};
 ghost use Rattle.kernel_model.specs.Rising.{IsRisingBy};
+ghost use Rattle.kernel_model.specs.SemFlagCalls.{serves_at_once, waited_for_flag, waited_for_sem};
+ghost use Rattle.kernel_model.specs.SemFlags.{SemFlagParts, SemFlags, flag_at, has_bits, sem_at, serve_flag, serve_sem};
 ghost use Rattle.kernel_model.specs.State.{State};
 ghost use Rattle.kernel_model.specs.TaskCalls.{task_call};
 ghost use Rattle.kernel_model.specs.Ticks.{tick_state};
 ghost use Rattle.kernel_model.specs.TimeOrder.{AreDueBy, AreInTimeOrder, AreLater, ComesAfter, after_ticks, after_time};
+ghost use Rattle.kernel_model.specs.Trial.{MayWait, flag_trial, sem_trial};
 ghost use Rattle.kernel_model.specs.Waiters.{waiting_count};
 
 /// Dispatching chooses the ready task of the highest priority, and of equals the one whose stamp is the
@@ -129,4 +137,35 @@ pub fn a_release_ends_one_wait()
     ensures over { (b : Base) (t : ℕ) (result : Answer) → is_waiting (release b t result) t ≡ false }
     ensures one { (b : Base) (t : ℕ) (result : Answer) → is_waiting b t ≡ true → waiting_count b ≡ waiting_count (release b t result) + 1 }
     ensures queues { (order : Order) (b : Base) (t object : ℕ) (result : Answer) → queue order (release b t result) object ≡ without t (queue order b object) }
+{}
+
+/// A waiting call is its trial: what a semaphore or an event flag decides for its caller is what comes of it when the
+/// caller joins the waiters and the object serves one, if it can. The caller is ready and has a place in the table of what
+/// tasks ask for, and the object is settled: before the call it could serve nobody.
+pub fn a_waiting_call_is_its_trial()
+    ensures semaphore { (b : Base) (s : SemFlags) (t id n : ℕ) (timeout : ℤ) (k : Semaphore) → MayWait b t →
+        sem_at s id ≡ Some k → t < length s.counts → serve_sem b s id ≡ None →
+        waited_for_sem b s t id n timeout (Some k) ≡ sem_trial b s t id n timeout k }
+    ensures event_flag { (b : Base) (s : SemFlags) (t id : ℕ) (wish : FlagWish) (timeout : ℤ) (k : EventFlag) → MayWait b t →
+        flag_at s id ≡ Some k → t < length s.wishes → serve_flag b s id ≡ None →
+        waited_for_flag b s t id wish timeout (Some k) ≡ flag_trial b s t id wish timeout k }
+{}
+
+/// With a time-out of 0 a waiting call that isn't served changes nothing: where a semaphore doesn't have the count that is
+/// asked for, or somebody stands before who has to be served first, and where an event flag doesn't have the bits, the
+/// answer is E_TMOUT, and the base and the tables are as they were.
+pub fn a_time_out_of_zero_changes_nothing()
+    ensures semaphore { (b : Base) (s : SemFlags) (t id n : ℕ) (k : Semaphore) → serves_at_once b k id t n ≡ false →
+        waited_for_sem b s t id n (pos 0) (Some k) ≡ record { base = b; table = s; outcome = failed er.TmOut } }
+    ensures event_flag { (b : Base) (s : SemFlags) (t id : ℕ) (wish : FlagWish) (k : EventFlag) → has_bits k.pattern wish ≡ false →
+        waited_for_flag b s t id wish (pos 0) (Some k) ≡ record { base = b; table = s; outcome = failed er.TmOut } }
+{}
+
+/// A serving of a semaphore or of an event flag ends one wait and no more: one task fewer waits than before. So serving
+/// until none can be served, which is what settling does, comes to an end.
+pub fn settling_serves_until_none_can_be()
+    ensures semaphore { (b : Base) (s : SemFlags) (id : ℕ) (parts : SemFlagParts) → serve_sem b s id ≡ Some parts →
+        waiting_count b ≡ waiting_count parts.base + 1 }
+    ensures event_flag { (b : Base) (s : SemFlags) (id : ℕ) (parts : SemFlagParts) → serve_flag b s id ≡ Some parts →
+        waiting_count b ≡ waiting_count parts.base + 1 }
 {}

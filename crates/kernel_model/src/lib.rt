@@ -5,3 +5,4 @@
 
 pub mod laws;
 pub mod marks;
+pub mod objects;

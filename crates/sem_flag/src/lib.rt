@@ -1,0 +1,16 @@
+//! Semaphores and event flags: their table, the calls on them, and the serving of their waiters.
+#![tactic(auto)]
+
+mod attributes;
+mod calls;
+mod deleting;
+mod flags;
+mod flag_waits;
+mod sem_waits;
+mod semaphores;
+mod serving;
+mod table;
+
+pub use calls::call;
+pub use serving::serve;
+pub use table::SemFlags;
