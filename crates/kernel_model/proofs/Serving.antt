@@ -1,5 +1,5 @@
 -- What one serving does: it ends the wait of a task that stands in the queue, and leaves the answer in the record.
-use Rattle.std.proofs.Common.{◌≡◌, ℕ, ◌+◌, Bool, true, false, not, List, [], ◌∷◌, ◌++◌, Option, Some, None, refl, cond, ◌∙◌, ap, sym, pos}
+use Rattle.std.proofs.Common.{◌≡◌, ℕ, ◌+◌, Bool, true, false, not, List, [], ◌∷◌, ◌++◌, Option, Some, None, refl, cond, ◌∙◌, ap, sym}
 use Rattle.std.specs.Prelude.{filter}
 use Rattle.std.specs.Bool.{◌==◌}
 use Rattle.std.specs.List.{find}
@@ -13,11 +13,10 @@ use Rattle.tk_types.specs.declared.task.Phase.TheVariants.{Dormant, Ready, Waiti
 use Rattle.tk_types.specs.declared.task.Release.{Release}
 use Rattle.kernel_model.specs.declared.objects.Semaphore.{Semaphore}
 use Rattle.kernel_model.specs.declared.objects.EventFlag.{EventFlag}
-use Rattle.kernel_model.specs.Checks.{plain}
 use Rattle.kernel_model.specs.Once.{times}
 use Rattle.kernel_model.specs.Orders.{without}
 use Rattle.kernel_model.specs.Base.{Base, task_at, is_waiting_phase, waits_in, waits_somewhere, is_waiting, waiting_in, waits_for, queue, release}
-use Rattle.kernel_model.specs.SemFlags.{SemFlags, SemFlagParts, sem_object, flag_object, sem_at, flag_at, count_of, wish_of, is_there, is_fulfilled, sem_pick, sem_served, flag_served, taken_from_sem, cleared_flag, flag_answer, serve_sem, serve_sem_at, serve_sem_of, serve_flag, serve_flag_at, serve_flag_of}
+use Rattle.kernel_model.specs.SemFlags.{SemFlags, SemFlagParts, sem_object, flag_object, sem_at, flag_at, is_there, is_fulfilled, sem_pick, sem_served, flag_served, serve_sem, serve_sem_at, serve_sem_of, serve_flag, serve_flag_at, serve_flag_of}
 use Rattle.kernel_model.specs.Trial.{ended_with}
 use Rattle.kernel_model.specs.Waiters.{waiting_count}
 use Rattle.kernel_model.proofs.Once.{times_without}
@@ -88,7 +87,7 @@ ends_one b t result left parts released served waits =
 
 sem_ends_of : (b : Base) (s : SemFlags) (id : ℕ) (k : Semaphore) (parts : SemFlagParts) (o : Option ℕ) → sem_served s k b id ≡ o → serve_sem_of b s id k o ≡ Some parts → waiting_count b ≡ waiting_count parts.base + 1
 sem_ends_of b s id k parts None picked served = absurd (cc served)
-sem_ends_of b s id k parts (Some t) picked served = ends_one b t (plain (pos 0)) (record { base = release b t (plain (pos 0)); table = taken_from_sem s id k (count_of s t) }) parts refl served (sem_served_waits b s id k t picked)
+sem_ends_of b s id k parts (Some t) picked served = ends_one b t _ _ parts refl served (sem_served_waits b s id k t picked)
 
 sem_ends_at : (b : Base) (s : SemFlags) (id : ℕ) (parts : SemFlagParts) (slot : Option Semaphore) → serve_sem_at b s id slot ≡ Some parts → waiting_count b ≡ waiting_count parts.base + 1
 sem_ends_at b s id parts None served = absurd (cc served)
@@ -101,7 +100,7 @@ sem_ends_one b s id parts served = sem_ends_at b s id parts (sem_at s id) served
 
 flag_ends_of : (b : Base) (s : SemFlags) (id : ℕ) (k : EventFlag) (parts : SemFlagParts) (o : Option ℕ) → flag_served s k b id ≡ o → serve_flag_of b s id k o ≡ Some parts → waiting_count b ≡ waiting_count parts.base + 1
 flag_ends_of b s id k parts None picked served = absurd (cc served)
-flag_ends_of b s id k parts (Some t) picked served = ends_one b t (flag_answer k) (record { base = release b t (flag_answer k); table = cleared_flag s id k (wish_of s t) }) parts refl served (flag_served_waits b s id k t picked)
+flag_ends_of b s id k parts (Some t) picked served = ends_one b t _ _ parts refl served (flag_served_waits b s id k t picked)
 
 flag_ends_at : (b : Base) (s : SemFlags) (id : ℕ) (parts : SemFlagParts) (slot : Option EventFlag) → serve_flag_at b s id slot ≡ Some parts → waiting_count b ≡ waiting_count parts.base + 1
 flag_ends_at b s id parts None served = absurd (cc served)
