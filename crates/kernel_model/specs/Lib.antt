@@ -11,6 +11,7 @@ pub mod Priority
 pub mod TaskCalls
 pub mod Precedence
 pub mod Waiters
+pub mod Queues
 pub mod Statements
 pub mod State
 pub mod Settle
