@@ -309,7 +309,7 @@ step_fifo object script budget st all = step_if_fifo object script budget st (is
 pub step_in_order : (object : ℕ) (script : Script) (budget : ℕ) (st : State) → AreOfOrder Fifo st.base object → AreOfOrder Fifo (step script budget st).state.base object
 step_in_order object script budget st all = record { alike = step_fifo object script budget st all.alike }
 
-none_there : (n t : ℕ) → entry (replicate {A = Option Task} n None) t ≡ None
+pub none_there : (n t : ℕ) → entry (replicate {A = Option Task} n None) t ≡ None
 none_there zero t = refl
 none_there (suc n) zero = refl
 none_there (suc n) (suc t) = none_there n t
