@@ -1,5 +1,6 @@
 pub mod Ready
+pub mod Queues
+pub mod Waiting
 pub mod Room
 pub mod Views
-pub mod Queues
 pub mod Handlers

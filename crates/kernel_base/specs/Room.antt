@@ -7,7 +7,9 @@ use Rattle.tk_types.specs.declared.task.DueEvent.{DueEvent}
 use Rattle.tk_types.specs.declared.task.Release.{Release}
 use Rattle.ready_queue.specs.declared.places.ReadyTask.{ReadyTask}
 use Rattle.kernel_model.specs.Once.{AreBelow, IsOnce}
+use Rattle.wait_queue.specs.Queues.{WaitTable}
 use Rattle.kernel_base.specs.Ready.{IsQueued}
+use Rattle.kernel_base.specs.Waiting.{AreWaits}
 
 -- an order of task IDs
 pub record IsOrder (ids : List ℕ) (capacity : ℕ) : Type 0 where
@@ -45,6 +47,7 @@ pub record HasRoom (tasks : List (Option Task)) (events : List DueEvent) (most :
   pub room : most ≡ most_events
 
 -- what holds of the base between its moves
-pub record IsBase (tasks : List (Option Task)) (order : List ℕ) (ready : List ReadyTask) (events : List DueEvent) (most : ℕ) : Type 0 where
+pub record IsBase (tasks : List (Option Task)) (order since : List ℕ) (ready : List ReadyTask) (table : WaitTable) (events : List DueEvent) (most : ℕ) : Type 0 where
   pub room : HasRoom tasks events most
   pub queue : IsQueued tasks order ready
+  pub waits : AreWaits tasks order since table

@@ -12,11 +12,15 @@ use std::alloc::{AllocError, Global};
 use std::marker::Model;
 use time_queue::Due;
 use tk_types::{Flags, Task};
+use wait_queue::Waits;
 
 /// How many events can be set: the end of a wait for each task, and each cyclic and alarm handler that an ID names.
 const MOST_EVENTS: u32 = 768;
 
-/// The tasks by ID, their orders, the queue of the ready ones, what is set for a time, the current task, what delays dispatching, the simulated
+/// How many objects there are for which a task can wait, from 0 on.
+const OBJECTS: u32 = 1024;
+
+/// The tasks by ID, their orders, the queue of the ready ones and that of those that wait, what is set for a time, the current task, what delays dispatching, the simulated
 /// memory that is taken, and the ends of waits that weren't taken yet.
 #[derive(Drop)]
 pub struct Base {
@@ -24,6 +28,7 @@ pub struct Base {
     pub(crate) order: Ids,
     pub(crate) since: Ids,
     pub(crate) ready: Ready,
+    pub(crate) waits: Waits,
     pub(crate) due: Due,
     pub(crate) time: u64,
     pub(crate) cur: Option<u8>,
@@ -40,7 +45,7 @@ impl Model for Base {
 
     ghost view = { λ b. record { tasks = b.tasks.items; order = b.order; since = b.since; events = b.due.events; made = b.due.made; time = b.time; cur = b.cur; flags = b.flags; bytes = b.bytes; released = b.released } };
 
-    ghost invariant = { λ b. IsBase b.tasks.items b.order b.ready b.due.events b.due.most };
+    ghost invariant = { λ b. IsBase b.tasks.items b.order b.since b.ready b.waits b.due.events b.due.most };
 }
 
 /// A slot for each ID, all free.
@@ -72,6 +77,7 @@ impl Base {
             order: Ids::one(alloc, 1)?,
             since: Ids::one(alloc, 1)?,
             ready,
+            waits: Waits::new(alloc, OBJECTS)?,
             due: Due::reserve(alloc, MOST_EVENTS)?,
             time: 0,
             cur: None,

@@ -58,7 +58,7 @@ impl Base {
         let Some(row) = self.slot(task) else {
             return;
         };
-        self.write_stopped(task, ended(row));
+        self.write_idle(task, ended(row));
         self.due.drop_wait(task);
         self.cur = gone(task, self.cur);
     }

@@ -7,6 +7,7 @@ mod calls;
 mod ending;
 mod events;
 mod ids;
+mod joining;
 mod priorities;
 mod queueing;
 mod reading;

@@ -30,7 +30,7 @@ impl Base {
         let Some(row) = self.slot(task) else {
             return;
         };
-        self.write_last(task, with_current(row, pri));
+        self.write_current(task, with_current(row, pri));
     }
 
     /// A task takes a new stamp: it is the last among its equals.

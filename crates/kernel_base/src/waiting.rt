@@ -1,14 +1,16 @@
-//! Waits begin, move and end.
+//! Waits begin and end, and who waits.
 
-ghost use Rattle.std.specs.Prelude.{◌≡◌, ◌<◌, ◌^◌, true};
-ghost use Rattle.kernel_model.specs.Base.{back_unless_suspended, make_wait, move_wait, release, with_task};
+ghost use Rattle.std.specs.Prelude.{◌≡◌, ◌<◌, ◌^◌, slice_get, true};
+ghost use Rattle.kernel_model.specs.Base.{back_unless_suspended, is_waiting, make_wait, release, with_task};
 ghost use Rattle.tk_types.specs.declared.task.Phase.TheVariants.{Ready};
+ghost use Rattle.kernel_model.specs.Queues.{AreOfOrder, queue_at};
+ghost use Rattle.kernel_base.specs.Waiting.{next_waiting};
 ghost use Rattle.kernel_base.specs.Ready.{has_priorities};
 
 use crate::base::Base;
 use crate::ending::gone;
 use crate::reading::is_waiting_phase;
-use crate::rows::{readied, waiting};
+use crate::rows::readied;
 use tk_types::{Answer, Event, Order, Task};
 
 impl Base {
@@ -20,43 +22,30 @@ impl Base {
         if row.suspensions == 0 {
             self.write_last(task, readied(row));
         } else {
-            self.write_stopped(task, readied(row));
+            self.write_idle(task, readied(row));
         }
     }
 
     /// A task begins to wait for an object, in the order of its queue, without a limit or for `tmout` milliseconds: it
-    /// is due in the tick that makes the time one more than that. Where it was the current one, that is gone.
+    /// is due in the tick that makes the time one more than that. Where it was the current one, that is gone. The object's
+    /// number is below 1,024, and its waiters queue in this order.
     pub fn make_wait(&mut self, task: u8, obj: u32, order: Order, tmout: i32)
         requires few { self.old.made < 2 ^ 63 }
         requires early { self.old.time < 2 ^ 63 }
+        requires object { obj < 1024 }
+        requires order { AreOfOrder order self.old obj }
         ensures { self.new ≡ make_wait self.old task obj order tmout }
     {
         let Some(row) = self.slot(task) else {
             return;
         };
-        self.write_last(task, waiting(row, obj, order));
+        self.write_waiting(task, row, obj, order);
         self.due.drop_wait(task);
-        self.since.move_to_back(task);
         self.cur = gone(task, self.cur);
         if tmout >= 0 {
             self.due
                 .add(self.time + tmout as u64 + 1, Event::Wait(task));
         }
-    }
-
-    /// A task that waits waits for another object from now on, without a limit, at the place that its stamp or the
-    /// beginning of its wait gives it there.
-    pub fn move_wait(&mut self, task: u8, obj: u32, order: Order)
-        ensures { self.new ≡ move_wait self.old task obj order }
-    {
-        let Some(row) = self.slot(task) else {
-            return;
-        };
-        if !is_waiting_phase(row.phase) {
-            return;
-        }
-        self.write_stopped(task, waiting(row, obj, order));
-        self.due.drop_wait(task);
     }
 
     /// A task's wait ends with an answer: it becomes READY, the last among its equals, or stays suspended. The end is
@@ -73,5 +62,24 @@ impl Base {
         self.write_readied(task, row);
         self.due.drop_wait(task);
         self.released.record(task, answer);
+    }
+
+    /// The first task in the queue of an object, whose number is below 1,024, or `None` where none waits for it.
+    pub fn head(&self, obj: u32) -> Option<u8>
+        requires { obj < 1024 }
+        ensures { result ≡ slice_get (queue_at self.now obj) 0 }
+    {
+        self.waits.head(obj)
+    }
+
+    /// The task behind one that waits, in the queue of the object that it waits for, or `None` where it is the last.
+    pub fn next_after(&self, task: u8) -> Option<u8>
+        requires { is_waiting self.now task ≡ true }
+        ensures { result ≡ next_waiting self.now task }
+    {
+        if !self.waits.waits(task) {
+            return None;
+        }
+        self.waits.next_after(task)
     }
 }

@@ -51,7 +51,7 @@ entry_cases : (P : Base → Type 0) (o : Option Task) (b : Base) (f : Task → B
 entry_cases P None b f same moved = same
 entry_cases P (Some k) b f same moved = moved k
 
-if_cases : (P : Base → Type 0) (test : Bool) (b c : Base) → P b → P c → P (cond test b c)
+pub if_cases : (P : Base → Type 0) (test : Bool) (b c : Base) → P b → P c → P (cond test b c)
 if_cases P true b c first second = first
 if_cases P false b c first second = second
 
@@ -59,7 +59,7 @@ unless_cases : (P : Base → Type 0) (error : Option Er) (b : Base) (effect : Ta
 unless_cases P (Some error) b effect refused works = refused
 unless_cases P None b effect refused works = works
 
-checked_cases : (P : Base → Type 0) (checks : List Check) (b : Base) (effect : TaskDone) → P b → P effect.base → P (checked checks b effect).base
+pub checked_cases : (P : Base → Type 0) (checks : List Check) (b : Base) (effect : TaskDone) → P b → P effect.base → P (checked checks b effect).base
 checked_cases P checks b effect refused works = unless_cases P (first_error checks) b effect refused works
 
 -- ---- each move makes no event, but the beginning of a wait
@@ -216,7 +216,7 @@ unfolding followed with_releases dispatched
 followed_within m t k script n st is =
     turned_within m t k _ n _ (follow_each_within m t k script n (record (settle st) { base = record (settle st).base { released = [] } }) (settle st).base.released (settle_within m t k st is))
 
-state_if : (P : State → Type 0) (test : Bool) (st other : State) → P st → P other → P (cond test st other)
+pub state_if : (P : State → Type 0) (test : Bool) (st other : State) → P st → P other → P (cond test st other)
 state_if P true st other first second = first
 state_if P false st other first second = second
 

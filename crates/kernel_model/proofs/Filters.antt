@@ -63,7 +63,7 @@ kept_if : (passed : ℕ → Bool) (t id : ℕ) (rest : List ℕ) (test : Bool) �
 kept_if passed t id rest true is fails = sym (not_here (passed id) id (filter passed rest) (ap passed (same_test id t is) ∙ fails))
 kept_if passed t id rest false is fails = refl
 
-left_out : (passed : ℕ → Bool) (t : ℕ) (ids : List ℕ) → passed t ≡ false → filter passed (without t ids) ≡ filter passed ids
+pub left_out : (passed : ℕ → Bool) (t : ℕ) (ids : List ℕ) → passed t ≡ false → filter passed (without t ids) ≡ filter passed ids
 left_out passed t [] fails = refl
 left_out passed t (id ∷ ids) fails = kept_if passed t id (without t ids) (id == t) refl fails ∙ ap (λ more. cond (passed id) (id ∷ more) more) (left_out passed t ids fails)
 

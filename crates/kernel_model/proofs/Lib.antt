@@ -2,6 +2,7 @@ pub mod Choice
 pub mod Precedence
 pub mod Once
 pub mod Counts
+pub mod WaitOrders
 pub mod Sorting
 pub mod ReadyLists
 pub mod Tables

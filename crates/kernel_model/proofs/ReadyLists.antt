@@ -172,7 +172,7 @@ zero_either true = refl
 zero_either false = refl
 
 -- a filter leaves those that pass as often as they were, and no other
-times_filter_is : (passes : ℕ → Bool) (n : ℕ) (ids : List ℕ) → times n (filter passes ids) ≡ cond (passes n) (times n ids) 0
+pub times_filter_is : (passes : ℕ → Bool) (n : ℕ) (ids : List ℕ) → times n (filter passes ids) ≡ cond (passes n) (times n ids) 0
 times_filter_is passes n [] = zero_either (passes n)
 times_filter_is passes n (id ∷ ids) = times_passed passes n id (passes id) (id == n) (filter passes ids) (times n ids) refl refl (times_filter_is passes n ids)
 

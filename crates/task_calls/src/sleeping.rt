@@ -1,6 +1,8 @@
 //! Sleep and delay.
 
 ghost use Rattle.std.specs.Prelude.{◌≡◌, ◌<◌, ◌^◌};
+ghost use Rattle.kernel_model.specs.Queues.{AreOfOrder};
+ghost use Rattle.tk_types.specs.declared.task.Order.TheVariants.{Fifo};
 ghost use Rattle.kernel_model.specs.TaskCalls.{delay, sleep};
 
 use kernel_base::answers::{caller, done, failed};
@@ -19,6 +21,7 @@ const DELAY: u32 = 1;
 pub(crate) fn sleep(base: &mut Base, who: Who, timeout: i32) -> Outcome
     requires few { base.old.made < 2 ^ 63 }
     requires early { base.old.time < 2 ^ 63 }
+    requires sleepers { AreOfOrder Fifo base.old 0 }
     ensures { sleep base.old who timeout ≡ record { base = base.new; outcome = result } }
 {
     if timeout < -1 {
@@ -45,6 +48,7 @@ pub(crate) fn sleep(base: &mut Base, who: Who, timeout: i32) -> Outcome
 pub(crate) fn delay(base: &mut Base, who: Who, time: i32) -> Outcome
     requires few { base.old.made < 2 ^ 63 }
     requires early { base.old.time < 2 ^ 63 }
+    requires delayed { AreOfOrder Fifo base.old 1 }
     ensures { delay base.old who time ≡ record { base = base.new; outcome = result } }
 {
     if time < 0 {

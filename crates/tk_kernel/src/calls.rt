@@ -2,6 +2,8 @@
 
 ghost use Rattle.std.specs.Prelude.{◌≡◌, ◌<◌, ◌^◌, ◌++◌, OnOk};
 ghost use Rattle.kernel_model.specs.Calls.{answered, base_call, begun, call_lines, called, noted, with_body, with_start};
+ghost use Rattle.kernel_model.specs.Queues.{AreOfOrder};
+ghost use Rattle.tk_types.specs.declared.task.Order.TheVariants.{Fifo};
 
 use crate::kernel::Kernel;
 use kernel_base::Base;
@@ -15,6 +17,8 @@ use tk_types::{Call, CallName, Er, Line, Outcome, TaskCall, Who};
 fn base_call(base: &mut Base, task: u8, call: &Call) -> Outcome
     requires few { base.old.made < 2 ^ 63 }
     requires early { base.old.time < 2 ^ 63 }
+    requires sleepers { AreOfOrder Fifo base.old 0 }
+    requires delayed { AreOfOrder Fifo base.old 1 }
     ensures { base_call base.old task call.now ≡ record { base = base.new; outcome = result } }
 {
     match call {
@@ -120,6 +124,8 @@ impl Kernel {
     ) -> Result<(), AllocError>
         requires few { self.old.base.made < 2 ^ 63 }
         requires early { self.old.base.time < 2 ^ 63 }
+        requires sleepers { AreOfOrder Fifo self.old.base 0 }
+        requires delayed { AreOfOrder Fifo self.old.base 1 }
         ensures state { OnOk result (self.new ≡ (called step self.old task call.now).state) }
         ensures lines { OnOk result (lines.new.items ≡ lines.old.items ++ (called step self.old task call.now).lines) }
     {

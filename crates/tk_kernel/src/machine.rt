@@ -6,6 +6,8 @@ ghost use Rattle.kernel_model.specs.Machine.{Machine as MachineView, after_step,
 ghost use Rattle.kernel_model.specs.Statements.{IsRunnable};
 ghost use Rattle.kernel_model.specs.Step.{step};
 ghost use Rattle.tk_kernel.specs.Pace.{pace_of};
+ghost use Rattle.kernel_model.specs.Queues.{AreOfOrder};
+ghost use Rattle.tk_types.specs.declared.task.Order.TheVariants.{Fifo};
 
 use crate::kernel::Kernel;
 use crate::stepping::push_end;
@@ -59,6 +61,8 @@ fn advance(
     requires limit { budget ≤ 1000000 }
     requires left { kernel.old.steps < budget }
     requires counts { IsCounted kernel.old }
+    requires sleepers { AreOfOrder Fifo kernel.old.base 0 }
+    requires delayed { AreOfOrder Fifo kernel.old.base 1 }
     ensures state { OnOk result (kernel.new ≡ (step script.now budget kernel.old).state) }
     ensures ending { IfOk result (λ over. over ≡ (step script.now budget kernel.old).over) }
     ensures lines { OnOk result (lines.new.items ≡ lines.old.items ++ (step script.now budget kernel.old).lines) }

@@ -9,4 +9,5 @@ pub invariant_of-self : goal.invariant_of-self
 invariant_of-self c = record {
   room = event_added c.args.due c.args.what _ _ _ (handler_below c.args.what c.requires.handler) (unset_nowhere c.args.what _ (search rules)) c.self.invariant.room c.add.ensures.set;
   queue = c.self.invariant.queue;
+  waits = c.self.invariant.waits;
 }

@@ -13,10 +13,12 @@ invariant_of-self c = record {
   room = event_added _ (Wait c.args.task) _ _ _ (below_most c.args.task (search rules)) (none_after_drop c.args.task _ _ (search rules) c.drop_wait.ensures)
       (wait_dropped c.args.task _ _ _ c.self.invariant.room c.drop_wait.ensures) c.add.ensures.set;
   queue = c.self.invariant.queue;
+  waits = c.self.invariant.waits;
 }
 
 pub invariant_of-self-else-tmout-ge0 : goal.invariant_of-self-else-tmout-ge0
 invariant_of-self-else-tmout-ge0 c = record {
   room = wait_dropped c.args.task _ _ _ c.self.invariant.room c.drop_wait.ensures;
   queue = c.self.invariant.queue;
+  waits = c.self.invariant.waits;
 }

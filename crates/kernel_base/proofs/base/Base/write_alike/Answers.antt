@@ -1,10 +1,12 @@
 use Rattle.std.proofs.Common.{Some, arith, rules}
 use Rattle.kernel_base.proofs.Rooms.{slot_written}
 use Rattle.kernel_base.proofs.Queued.{queued_alike}
+use Rattle.kernel_base.proofs.Waited.{waits_written}
 use Rattle.kernel_base.proofs.base.Base.write_alike.Goals as goal
 
 pub invariant_of-self : goal.invariant_of-self
 invariant_of-self c = record {
   room = slot_written c.args.task (Some c.args.row) _ _ _ c.self.invariant.room;
   queue = queued_alike c.args.task (Some c.args.row) _ _ _ (omega (arith, c.self.invariant.room.slots)) c.requires.priorities (search rules) (search rules) c.self.invariant.queue;
+  waits = waits_written c.args.task (Some c.args.row) _ _ _ _ (omega (arith, c.self.invariant.room.slots)) (search rules) (search rules) (search rules) c.self.invariant.waits;
 }
