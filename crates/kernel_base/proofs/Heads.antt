@@ -1,5 +1,6 @@
 -- What the queue of the waiters tells is what the table and the orders tell.
-use Rattle.std.proofs.Common.{◌≡◌, ℕ, ◌<◌, ◌≤◌, Bool, true, false, List, [], ◌∷◌, Option, Some, None, map, refl, arith, ap, subst, sym, ◌∙◌, cond}
+use Rattle.std.specs.Option.{option_map}
+use Rattle.std.proofs.Common.{length, suc, zero, ◌≡◌, ℕ, ◌<◌, ◌≤◌, Bool, true, false, List, [], ◌∷◌, Option, Some, None, map, refl, arith, ap, subst, sym, ◌∙◌, cond}
 use Rattle.std.specs.List.{AllByRecursion}
 use Rattle.std.specs.Prelude.{filter, slice_get}
 use Rattle.std.proofs.lemmas.Bool.{or_parts}
@@ -9,11 +10,11 @@ use Rattle.tk_types.specs.declared.task.Phase.TheVariants.{Dormant, Ready, Waiti
 use Rattle.tk_types.specs.declared.task.Order.{Order}
 use Rattle.tk_types.specs.declared.task.Order.TheVariants.{Fifo, Priority}
 use Rattle.wait_queue.specs.declared.waiters.Waiter.{Waiter}
-use Rattle.wait_queue.specs.Queues.{WaitTable, first_task, is_of_task, next_waiter, queue_of, waits}
+use Rattle.wait_queue.specs.Queues.{WaitTable, first_task, is_of_task, next_waiter, queue_of, task_in_place, waits}
 use Rattle.kernel_model.specs.Orders.{entry}
 use Rattle.kernel_model.specs.Once.{times}
 use Rattle.kernel_model.specs.Base.{Base, is_waiting, queue, task_at, waiting_in, waits_in, waits_somewhere}
-use Rattle.kernel_model.specs.Queues.{order_of_first, queue_at, queue_in}
+use Rattle.kernel_model.specs.Queues.{AreOfOrder, order_of_first, queue_at, queue_in}
 use Rattle.kernel_model.proofs.ReadyLists.{times_filter_is}
 use Rattle.kernel_base.specs.Queues.{behind}
 use Rattle.kernel_base.specs.Waiting.{AreWaits, IsQueue, next_waiting, object_of, object_of_phase, phase_in, queued_in, waiter_at, waits_at}
@@ -77,3 +78,29 @@ none_next t [] outside = refl
 none_next t (first ∷ rest) outside =
     let parts = or_parts (is_of_task t first) (waits t rest) outside in
     ap (λ b. cond b (first_task (queue_of first.object rest)) (next_waiter t rest)) parts.0 ∙ none_next t rest parts.1
+
+-- ---- places in a queue
+
+-- the waiters of an object are the tasks of its queue, in the order in which all of them queue
+queued_stands : (order : Order) (b : Base) (object : ℕ) (list : List Waiter) → AreOfOrder order b object → IsQueue b.tasks b.order b.since list object → queue_of object list ≡ map (waiter_at b.tasks object) (queue order b object)
+queued_stands order b object list alike is =
+    is.stand ∙ ap (map (waiter_at b.tasks object)) (queued_either is.by order object b.tasks b.order b.since (λ u there. (is.each u there).alike) (λ u there. alike.alike u there) ∙ sym (queue_is order b object))
+
+in_place_at : (tasks : List (Option Task)) (object : ℕ) (ids : List ℕ) (place : ℕ) → option_map (λ (waiter : Waiter). waiter.task) (slice_get (map (waiter_at tasks object) ids) place) ≡ slice_get ids place
+in_place_at tasks object [] place = refl
+in_place_at tasks object (t ∷ ids) zero = refl
+in_place_at tasks object (t ∷ ids) (suc place) = in_place_at tasks object ids place
+
+pub place_stands : (order : Order) (inside seen : Base) (table : WaitTable) (object place : ℕ) → AreOfOrder order seen object → AreWaits inside.tasks inside.order inside.since table → inside ≡ seen → task_in_place object place table.waiters ≡ slice_get (queue order seen object) place
+place_stands order inside seen table object place alike was is =
+    ap (λ list. option_map (λ (waiter : Waiter). waiter.task) (slice_get list place)) (queued_stands order inside object table.waiters (subst (λ (b : Base). AreOfOrder order b object) (sym is) alike) (was.queues object))
+    ∙ (in_place_at inside.tasks object (queue order inside object) place ∙ ap (λ (b : Base). slice_get (queue order b object) place) is)
+
+length_waiters : (tasks : List (Option Task)) (object : ℕ) (ids : List ℕ) → length (map (waiter_at tasks object) ids) ≡ length ids
+length_waiters tasks object [] = refl
+length_waiters tasks object (t ∷ ids) = ap suc (length_waiters tasks object ids)
+
+pub count_stands : (order : Order) (inside seen : Base) (table : WaitTable) (object : ℕ) → AreOfOrder order seen object → AreWaits inside.tasks inside.order inside.since table → inside ≡ seen → length (queue_of object table.waiters) ≡ length (queue order seen object)
+count_stands order inside seen table object alike was is =
+    ap length (queued_stands order inside object table.waiters (subst (λ (b : Base). AreOfOrder order b object) (sym is) alike) (was.queues object))
+    ∙ (length_waiters inside.tasks object (queue order inside object) ∙ ap (λ (b : Base). length (queue order b object)) is)

@@ -1,8 +1,9 @@
 //! Waits begin and end, and who waits.
 
-ghost use Rattle.std.specs.Prelude.{◌≡◌, ◌<◌, ◌^◌, slice_get, true};
-ghost use Rattle.kernel_model.specs.Base.{back_unless_suspended, is_waiting, make_wait, release, with_task};
+ghost use Rattle.std.specs.Prelude.{◌≡◌, ◌<◌, ◌^◌, length, slice_get, true};
+ghost use Rattle.kernel_model.specs.Base.{back_unless_suspended, is_waiting, make_wait, queue, release, with_task};
 ghost use Rattle.tk_types.specs.declared.task.Phase.TheVariants.{Ready};
+ghost use Rattle.kernel_model.specs.Orders.{head_or_zero};
 ghost use Rattle.kernel_model.specs.Queues.{AreOfOrder, queue_at};
 ghost use Rattle.kernel_base.specs.Waiting.{next_waiting};
 ghost use Rattle.kernel_base.specs.Ready.{has_priorities};
@@ -70,6 +71,36 @@ impl Base {
         ensures { result ≡ slice_get (queue_at self.now obj) 0 }
     {
         self.waits.head(obj)
+    }
+
+    /// How many tasks wait for an object, whose number is below 1,024 and whose waiters queue in that order.
+    pub fn waiter_count(&self, order: Order, obj: u32) -> usize
+        requires object { obj < 1024 }
+        requires order { AreOfOrder order self.now obj }
+        ensures { result ≡ length (queue order self.now obj) }
+    {
+        self.waits.count(obj)
+    }
+
+    /// The task in that place of an object's queue, from 0 on, or `None` behind the last.
+    pub fn waiter(&self, order: Order, obj: u32, place: usize) -> Option<u8>
+        requires object { obj < 1024 }
+        requires order { AreOfOrder order self.now obj }
+        ensures { result ≡ slice_get (queue order self.now obj) place }
+    {
+        self.waits.in_place(obj, place)
+    }
+
+    /// The first task in the queue of an object, or 0 where none waits for it.
+    pub fn first_waiter(&self, order: Order, obj: u32) -> u8
+        requires object { obj < 1024 }
+        requires order { AreOfOrder order self.now obj }
+        ensures { result ≡ head_or_zero (queue order self.now obj) }
+    {
+        match self.waiter(order, obj, 0) {
+            None => 0,
+            Some(task) => task,
+        }
     }
 
     /// The task behind one that waits, in the queue of the object that it waits for, or `None` where it is the last.

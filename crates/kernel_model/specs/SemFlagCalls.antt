@@ -1,7 +1,6 @@
 -- The system calls on semaphores and event flags: the checks of each in their order, and its effect up to the first
 -- settling.
-use Rattle.std.specs.Prelude.{ℕ, ◌+◌, ◌==◌, Bool, true, false, not, ◌&&◌, ◌||◌, nat_le, nat_lt, if◌then◌else◌, ℤ, pos, negsuc, int_le, List, [], ◌∷◌, Option, Some, None, drop, slice_set, bit_and, bit_or}
-use Rattle.std.specs.List.{fold}
+use Rattle.std.specs.Prelude.{ℕ, zero, suc, length, ◌+◌, ◌==◌, Bool, true, false, not, ◌&&◌, ◌||◌, nat_le, nat_lt, if◌then◌else◌, ℤ, pos, negsuc, int_le, List, [], ◌∷◌, Option, Some, None, drop, slice_set, bit_and, bit_or}
 use Rattle.std.specs.Option.{is_some}
 use Rattle.std.specs.Ordering.{int_eq}
 use Rattle.std.specs.Int.{w32, cast_unsigned, cast_signed}
@@ -23,7 +22,7 @@ use Rattle.kernel_model.specs.declared.objects.EventFlag.{EventFlag}
 use Rattle.kernel_model.specs.declared.objects.FlagWish.{FlagWish}
 use Rattle.kernel_model.specs.Orders.{free_from, head_or_zero}
 use Rattle.kernel_model.specs.Checks.{Check, ◌otherwise◌, first_error, within, natural, answer, plain, failed, done}
-use Rattle.kernel_model.specs.Base.{Base, current, make_wait, release}
+use Rattle.kernel_model.specs.Base.{Base, current, make_wait, queue, release}
 use Rattle.kernel_model.specs.Marks.{allows}
 use Rattle.kernel_model.specs.TaskCalls.{caller}
 use Rattle.kernel_model.specs.SemFlags.{SemFlags, sem_at, flag_at, sem_object, flag_object, with_sem, with_flag, sem_waiters, flag_waiters, taken_from_sem, cleared_flag, has_bits, flag_answer}
@@ -110,26 +109,36 @@ has_sem s id = is_some (sem_at s (natural id))
 abbrev pub has_flag : SemFlags → ℤ → Bool
 has_flag s id = is_some (flag_at s (natural id))
 
--- each of these waits ends with E_DLT, in order
-abbrev pub end_deleted : Base → List ℕ → Base
-end_deleted b waiters = fold (λ now t. release now t (plain (code_of er.Dlt))) b waiters
+-- the wait of the first of these ends with E_DLT
+abbrev pub first_ended : List ℕ → Base → Base
+first_ended [] b = b
+first_ended (t ∷ rest) b = release b t (plain (code_of er.Dlt))
 
-abbrev pub waiters_of_sem : Base → ℕ → Option Semaphore → List ℕ
-waiters_of_sem b id None = []
-waiters_of_sem b id (Some k) = sem_waiters b k id
+-- the first of a queue ends its wait, so many times
+unfoldable pub end_first : ℕ → Order → ℕ → Base → Base
+end_first zero order object b = b
+end_first (suc left) order object b = end_first left order object (first_ended (queue order b object) b)
 
-abbrev pub waiters_of_flag : Base → ℕ → Option EventFlag → List ℕ
-waiters_of_flag b id None = []
-waiters_of_flag b id (Some k) = flag_waiters b k id
+-- all waits for an object end with E_DLT, in the order of its queue
+abbrev pub end_waits : Order → ℕ → Base → Base
+end_waits order object b = end_first (length (queue order b object)) order object b
+
+abbrev pub sem_waits_ended : Base → ℕ → Option Semaphore → Base
+sem_waits_ended b id None = b
+sem_waits_ended b id (Some k) = end_waits k.order (sem_object id) b
+
+abbrev pub flag_waits_ended : Base → ℕ → Option EventFlag → Base
+flag_waits_ended b id None = b
+flag_waits_ended b id (Some k) = end_waits k.order (flag_object id) b
 
 -- `tk_del_sem` and `tk_del_flg`: the object is gone, and its waiters' waits end in queue order
 unfoldable pub delete_sem : Base → SemFlags → ℤ → SemFlagDone
 delete_sem b s id = sem_flag_checked (object_checks id (has_sem s id) []) b s
-    (record { base = end_deleted b (waiters_of_sem b (natural id) (sem_at s (natural id))); table = with_sem s (natural id) None; outcome = done (pos 0) })
+    (record { base = sem_waits_ended b (natural id) (sem_at s (natural id)); table = with_sem s (natural id) None; outcome = done (pos 0) })
 
 unfoldable pub delete_flag : Base → SemFlags → ℤ → SemFlagDone
 delete_flag b s id = sem_flag_checked (object_checks id (has_flag s id) []) b s
-    (record { base = end_deleted b (waiters_of_flag b (natural id) (flag_at s (natural id))); table = with_flag s (natural id) None; outcome = done (pos 0) })
+    (record { base = flag_waits_ended b (natural id) (flag_at s (natural id)); table = with_flag s (natural id) None; outcome = done (pos 0) })
 
 -- ---- asking
 

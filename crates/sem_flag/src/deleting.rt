@@ -1,27 +1,29 @@
 //! Semaphores and event flags are deleted.
 
 ghost use Rattle.std.specs.Prelude.{◌≡◌, ◌<◌};
-ghost use Rattle.kernel_model.specs.Queues.{queue_at};
-ghost use Rattle.kernel_model.specs.SemFlagCalls.{delete_flag, delete_sem, end_deleted};
+ghost use Rattle.kernel_model.specs.Queues.{AreOfOrder};
+ghost use Rattle.kernel_model.specs.SemFlagCalls.{delete_flag, delete_sem, end_waits};
 ghost use Rattle.sem_flag.specs.Parts.{AreQueued};
 
 use crate::attributes::object_id;
 use crate::serving::{FIRST_FLAG, FIRST_SEM};
 use crate::table::SemFlags;
-use kernel_base::Base;
 use kernel_base::answers::{done, failed, plain};
+use kernel_base::{Base, Order};
 use tk_types::{Er, Outcome};
 
 /// The waits for an object end with E_DLT, in the order of its queue.
-fn end_waits(base: &mut Base, obj: u32)
-    requires { obj < 1024 }
-    ensures { base.new ≡ end_deleted base.old (queue_at base.old obj) }
+fn end_waits(base: &mut Base, order: Order, obj: u32)
+    requires object { obj < 1024 }
+    requires order { AreOfOrder order base.old obj }
+    ensures { base.new ≡ end_waits order obj base.old }
 {
-    let count = base.waiter_count(obj);
+    let count = base.waiter_count(order, obj);
     'waiters: for _ended in 0..count {
-        if let Some(task) = base.waiter(obj, 0) {
-            base.release(task, plain(Er::Dlt.main_code()));
-        }
+        let Some(task) = base.waiter(order, obj, 0) else {
+            return;
+        };
+        base.release(task, plain(Er::Dlt.main_code()));
     }
 }
 
@@ -34,10 +36,10 @@ pub(crate) fn delete_sem(base: &mut Base, table: &mut SemFlags, id: i32) -> Outc
     let Some(id) = object_id(id) else {
         return failed(Er::Id);
     };
-    if !table.has_sem(id) {
+    let Some(row) = table.sem(id) else {
         return failed(Er::NoExs);
-    }
-    end_waits(base, FIRST_SEM - 1 + id as u32);
+    };
+    end_waits(base, row.order, FIRST_SEM - 1 + id as u32);
     table.set_sem(id, None);
     done(0)
 }
@@ -51,10 +53,10 @@ pub(crate) fn delete_flag(base: &mut Base, table: &mut SemFlags, id: i32) -> Out
     let Some(id) = object_id(id) else {
         return failed(Er::Id);
     };
-    if !table.has_flg(id) {
+    let Some(row) = table.flag(id) else {
         return failed(Er::NoExs);
-    }
-    end_waits(base, FIRST_FLAG - 1 + id as u32);
+    };
+    end_waits(base, row.order, FIRST_FLAG - 1 + id as u32);
     table.set_flag(id, None);
     done(0)
 }

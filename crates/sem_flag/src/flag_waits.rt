@@ -1,7 +1,7 @@
 //! Waits for event flags.
 
 ghost use Rattle.std.specs.Prelude.{◌≡◌, ◌<◌, ◌≤◌, ◌^◌, Some};
-ghost use Rattle.kernel_model.specs.SemFlagCalls.{may_join, wait_flag};
+ghost use Rattle.kernel_model.specs.SemFlagCalls.{may_join, wait_flag, waited_for_flag};
 ghost use Rattle.kernel_model.specs.SemFlags.{flag_at};
 ghost use Rattle.sem_flag.specs.Parts.{AreQueued};
 
@@ -21,7 +21,36 @@ fn may_join(base: &Base, table: &SemFlags, row: EventFlag, id: u8) -> bool
     requires queued { AreQueued base.now table.now }
     ensures { result ≡ may_join base.now id (Some row) }
 {
-    row.many || base.first_waiter(FIRST_FLAG - 1 + id as u32) == 0
+    row.many || base.first_waiter(row.order, FIRST_FLAG - 1 + id as u32) == 0
+}
+
+/// Answers the pattern of an event flag where it has the bits of a wish, or lets the task wait.
+fn answer_or_wait(
+    base: &mut Base,
+    table: &mut SemFlags,
+    task: u8,
+    id: u8,
+    row: EventFlag,
+    wish: FlagWish,
+    timeout: i32,
+) -> Outcome
+    requires few { base.old.made < 2 ^ 63 }
+    requires early { base.old.time < 2 ^ 63 }
+    requires known { id ≤ 64 }
+    requires there { flag_at table.old id ≡ Some row }
+    requires queued { AreQueued base.old table.old }
+    ensures { waited_for_flag base.old table.old task id wish timeout (Some row) ≡ record { base = base.new; table = table.new; outcome = result } }
+{
+    if has_bits(row.pattern, wish) {
+        clear(table, id, row, wish);
+        return Outcome::Returned(flag_answer(row));
+    }
+    if timeout == 0 {
+        return failed(Er::TmOut);
+    }
+    table.ask_wish(task, wish);
+    base.make_wait(task, FIRST_FLAG - 1 + id as u32, row.order, timeout);
+    Outcome::Blocked
 }
 
 /// `tk_wai_flg`: answers the pattern once it has the bits, or waits.
@@ -43,7 +72,13 @@ pub(crate) fn wait_flag(
     let Some(id) = object_id(id) else {
         return failed(Er::Id);
     };
-    if bits == 0 || !is_mode(mode) || timeout < -1 {
+    if bits == 0 {
+        return failed(Er::Par);
+    }
+    if !is_mode(mode) {
+        return failed(Er::Par);
+    }
+    if timeout < -1 {
         return failed(Er::Par);
     }
     if !base.allows(who, Mark::MayWait) {
@@ -59,15 +94,5 @@ pub(crate) fn wait_flag(
         bits: bits.cast_unsigned(),
         mode,
     };
-    if has_bits(row.pattern, wish) {
-        clear(table, id, row, wish);
-        return Outcome::Returned(flag_answer(row));
-    }
-    if timeout == 0 {
-        return failed(Er::TmOut);
-    }
-    let task = caller(who);
-    table.ask_wish(task, wish);
-    base.make_wait(task, FIRST_FLAG - 1 + id as u32, row.order, timeout);
-    Outcome::Blocked
+    answer_or_wait(base, table, caller(who), id, row, wish, timeout)
 }

@@ -107,6 +107,6 @@ pub(crate) fn refer_flag(base: &Base, table: &SemFlags, id: i32) -> Outcome
     let Some(row) = table.flag(id) else {
         return failed(Er::NoExs);
     };
-    let first = base.first_waiter(FIRST_FLAG - 1 + id as u32);
+    let first = base.first_waiter(row.order, FIRST_FLAG - 1 + id as u32);
     Outcome::Returned(shown(row.pattern, first))
 }

@@ -4,8 +4,8 @@
 mod attributes;
 mod calls;
 mod deleting;
-mod flags;
 mod flag_waits;
+mod flags;
 mod sem_waits;
 mod semaphores;
 mod serving;

@@ -1,7 +1,8 @@
 //! Waits for semaphores.
 
 ghost use Rattle.std.specs.Prelude.{◌≡◌, ◌<◌, ◌≤◌, ◌^◌, Some};
-ghost use Rattle.kernel_model.specs.Queues.{queue_at};
+ghost use Rattle.kernel_model.specs.Base.{queue};
+ghost use Rattle.kernel_model.specs.Queues.{AreOfOrder};
 ghost use Rattle.kernel_model.specs.SemFlagCalls.{serves_at_once, wait_sem, would_be_first};
 ghost use Rattle.kernel_model.specs.SemFlags.{sem_at};
 ghost use Rattle.sem_flag.specs.Parts.{AreQueued};
@@ -17,10 +18,11 @@ use tk_types::{Er, Outcome, Who};
 
 /// Whether a task that joined the queue of an object would stand first.
 fn would_be_first(base: &Base, order: Order, task: u8, obj: u32) -> bool
-    requires { obj < 1024 }
-    ensures { result ≡ would_be_first order base.now task (queue_at base.now obj) }
+    requires object { obj < 1024 }
+    requires order { AreOfOrder order base.now obj }
+    ensures { result ≡ would_be_first order base.now task (queue order base.now obj) }
 {
-    match base.waiter(obj, 0) {
+    match base.waiter(order, obj, 0) {
         None => true,
         Some(first) => match order {
             Order::Fifo => false,
@@ -30,7 +32,14 @@ fn would_be_first(base: &Base, order: Order, task: u8, obj: u32) -> bool
 }
 
 /// Whether a semaphore serves a task at once.
-fn serves_at_once(base: &Base, table: &SemFlags, row: Semaphore, id: u8, task: u8, count: u16) -> bool
+fn serves_at_once(
+    base: &Base,
+    table: &SemFlags,
+    row: Semaphore,
+    id: u8,
+    task: u8,
+    count: u16,
+) -> bool
     requires known { id ≤ 64 }
     requires there { sem_at table.now id ≡ Some row }
     requires queued { AreQueued base.now table.now }

@@ -99,6 +99,6 @@ pub(crate) fn refer_sem(base: &Base, table: &SemFlags, id: i32) -> Outcome
     let Some(row) = table.sem(id) else {
         return failed(Er::NoExs);
     };
-    let first = base.first_waiter(FIRST_SEM - 1 + id as u32);
+    let first = base.first_waiter(row.order, FIRST_SEM - 1 + id as u32);
     Outcome::Returned(shown(row.count, first))
 }

@@ -1,12 +1,11 @@
 //! Waiters are served, one at a time.
 
-ghost use Rattle.std.specs.Prelude.{◌≡◌, ◌<◌, ◌≤◌, ◌+◌, ◌∷◌, [], Some, if◌then◌else◌, pos, slice_get, unwrap_or};
-ghost use Rattle.std.specs.Int.{w32, cast_signed};
+ghost use Rattle.std.specs.Prelude.{◌≡◌, ◌<◌, ◌≤◌, Some, unwrap_or};
 ghost use Rattle.std.specs.List.{find};
 ghost use Rattle.std.specs.Option.{is_some};
-ghost use Rattle.kernel_model.specs.Checks.{answer};
-ghost use Rattle.kernel_model.specs.Queues.{AreOfOrder, queue_at};
-ghost use Rattle.kernel_model.specs.SemFlags.{cleared_by, cleared_flag, first_if, flag_answer, flag_object, has_bits, is_fulfilled, is_there, sem_object, sem_pick, serve_flag, serve_sem, taken_from_sem};
+ghost use Rattle.kernel_model.specs.Base.{queue};
+ghost use Rattle.kernel_model.specs.Queues.{AreOfOrder};
+ghost use Rattle.kernel_model.specs.SemFlags.{cleared_by, cleared_flag, first_if, flag_answer, has_bits, is_fulfilled, is_there, sem_pick, serve_flag, serve_sem, taken_from_sem};
 ghost use Rattle.sem_flag.specs.Parts.{AreQueued, parts_of, serve_object};
 
 use crate::table::SemFlags;
@@ -29,15 +28,15 @@ fn is_there(table: &SemFlags, row: Semaphore, task: u8) -> bool
 
 /// The first waiter of an object whose count is there.
 fn find_there(base: &Base, table: &SemFlags, row: Semaphore, obj: u32) -> Option<u8>
-    requires { obj < 1024 }
-    ensures { result ≡ find (is_there table.now row) (queue_at base.now obj) }
+    requires object { obj < 1024 }
+    requires order { AreOfOrder row.order base.now obj }
+    ensures { result ≡ find (is_there table.now row) (queue row.order base.now obj) }
 {
-    let count = base.waiter_count(obj);
+    let count = base.waiter_count(row.order, obj);
     'waiters: for place in 0..count {
-        if let Some(task) = base.waiter(obj, place) {
-            if is_there(table, row, task) {
-                return Some(task);
-            }
+        let task = base.waiter(row.order, obj, place)?;
+        if is_there(table, row, task) {
+            return Some(task);
         }
     }
     None
@@ -45,10 +44,11 @@ fn find_there(base: &Base, table: &SemFlags, row: Semaphore, obj: u32) -> Option
 
 /// The first waiter of an object, if its count is there.
 fn first_there(base: &Base, table: &SemFlags, row: Semaphore, obj: u32) -> Option<u8>
-    requires { obj < 1024 }
-    ensures { result ≡ first_if (is_there table.now row) (queue_at base.now obj) }
+    requires object { obj < 1024 }
+    requires order { AreOfOrder row.order base.now obj }
+    ensures { result ≡ first_if (is_there table.now row) (queue row.order base.now obj) }
 {
-    let task = base.waiter(obj, 0)?;
+    let task = base.waiter(row.order, obj, 0)?;
     if is_there(table, row, task) {
         return Some(task);
     }
@@ -57,8 +57,9 @@ fn first_there(base: &Base, table: &SemFlags, row: Semaphore, obj: u32) -> Optio
 
 /// The waiter that a semaphore serves, if it can serve one.
 fn pick(base: &Base, table: &SemFlags, row: Semaphore, obj: u32) -> Option<u8>
-    requires { obj < 1024 }
-    ensures { result ≡ sem_pick row.any_place (is_there table.now row) (queue_at base.now obj) }
+    requires object { obj < 1024 }
+    requires order { AreOfOrder row.order base.now obj }
+    ensures { result ≡ sem_pick row.any_place (is_there table.now row) (queue row.order base.now obj) }
 {
     if row.any_place {
         find_there(base, table, row, obj)
@@ -129,17 +130,24 @@ pub(crate) fn flag_answer(row: EventFlag) -> Answer
     }
 }
 
+/// Whether an event flag's pattern has what a task asked for.
+fn is_fulfilled(table: &SemFlags, row: EventFlag, task: u8) -> bool
+    ensures { result ≡ is_fulfilled table.now row task }
+{
+    has_bits(row.pattern, table.wish_of(task))
+}
+
 /// The first waiter of an object whose condition holds.
 fn find_fulfilled(base: &Base, table: &SemFlags, row: EventFlag, obj: u32) -> Option<u8>
-    requires { obj < 1024 }
-    ensures { result ≡ find (is_fulfilled table.now row) (queue_at base.now obj) }
+    requires object { obj < 1024 }
+    requires order { AreOfOrder row.order base.now obj }
+    ensures { result ≡ find (is_fulfilled table.now row) (queue row.order base.now obj) }
 {
-    let count = base.waiter_count(obj);
+    let count = base.waiter_count(row.order, obj);
     'waiters: for place in 0..count {
-        if let Some(task) = base.waiter(obj, place) {
-            if has_bits(row.pattern, table.wish_of(task)) {
-                return Some(task);
-            }
+        let task = base.waiter(row.order, obj, place)?;
+        if is_fulfilled(table, row, task) {
+            return Some(task);
         }
     }
     None

@@ -1,0 +1,9 @@
+use Rattle.std.proofs.Common.{◌≡◌, drop}
+use Rattle.std.specs.List.{find}
+use Rattle.kernel_model.specs.Base.{queue}
+use Rattle.kernel_model.specs.SemFlags.{is_fulfilled}
+use Rattle.sem_flag.proofs.serving.find_fulfilled.Given as goal
+
+-- the first that is found in what is left is the first of all
+abbrev pub invariant-waiters : goal.invariant-waiters
+invariant-waiters l = find (is_fulfilled l.table l.row) (drop l.place (queue l.row.order l.base l.obj)) ≡ find (is_fulfilled l.table l.row) (queue l.row.order l.base l.obj)
