@@ -93,7 +93,7 @@ pub record MayQueue (slot : Option Task) (waits : WaitTable) : Type 0 where
   pub below : (object : ℕ) → waiting_in object slot ≡ true → object < waits.objects
   pub alike : (object : ℕ) → waiting_in object slot ≡ true → waiters.AreOfOrder (queue_in slot) (queue_of object waits.waiters)
 
--- where a task is, and the queue that it waits in or last waited in
+-- where a task is; a free slot is as one that was not started
 abbrev pub phase_in : Option Task → Phase
 phase_in None = Dormant
 phase_in (Some k) = k.phase
