@@ -13,11 +13,10 @@ use Rattle.wait_queue.specs.declared.waiters.Waiter.{Waiter}
 use Rattle.wait_queue.specs.Queues.{WaitTable, first_task, is_of_task, next_waiter, queue_of, task_in_place, waits}
 use Rattle.kernel_model.specs.Orders.{entry}
 use Rattle.kernel_model.specs.Once.{times}
-use Rattle.kernel_model.specs.Base.{Base, is_waiting, queue, task_at, waiting_in, waits_in, waits_somewhere}
-use Rattle.kernel_model.specs.Queues.{AreOfOrder, order_of_first, queue_at, queue_in}
+use Rattle.kernel_model.specs.Base.{Base, queue, waiting_in, waits_in}
+use Rattle.kernel_model.specs.Queues.{AreOfOrder, order_of_first, queue_at}
 use Rattle.kernel_model.proofs.ReadyLists.{times_filter_is}
-use Rattle.kernel_base.specs.Queues.{behind}
-use Rattle.kernel_base.specs.Waiting.{AreWaits, IsQueue, next_waiting, object_of, object_of_phase, phase_in, queued_in, waiter_at, waits_at}
+use Rattle.kernel_base.specs.Waiting.{AreWaits, IsQueue, next_waiting, object_of, object_of_phase, queued_in, waiter_at, waits_at}
 use Rattle.kernel_base.proofs.WaitLists.{AllQueue, all_filter, all_queued, queued_either, same_id}
 use Rattle.kernel_base.proofs.WaiterLists.{all_waiters, each_of_queues, first_stands, next_stands}
 
@@ -64,7 +63,7 @@ own_objects t tasks order since table was = each_of_queues (λ (w : Waiter). w.t
     let is = was.queues object in
     subst (AllByRecursion (λ (w : Waiter). w.task ≡ t → w.object ≡ object_of (entry tasks t))) (sym is.stand)
     (all_waiters (λ (w : Waiter). w.task ≡ t → w.object ≡ object_of (entry tasks t)) tasks object (queued_in is.by tasks order since object)
-      (all_queued (λ u. u ≡ t → object ≡ object_of (entry tasks t)) is.by object tasks order since (λ u there. own_object t u object tasks there))))
+    (all_queued (λ u. u ≡ t → object ≡ object_of (entry tasks t)) is.by object tasks order since (λ u there. own_object t u object tasks there))))
 
 pub next_waits : (inside seen : Base) (table : WaitTable) (t : ℕ) → AreWaits inside.tasks inside.order inside.since table → inside ≡ seen → next_waiter t table.waiters ≡ next_waiting seen t
 next_waits inside seen table t was is =

@@ -5,3 +5,4 @@ pub mod WaitLists
 pub mod WaiterLists
 pub mod Waited
 pub mod Heads
+pub mod Restored

@@ -1,5 +1,5 @@
 -- How the tasks that wait for an object by a table change when a slot or an order is written.
-use Rattle.std.proofs.Common.{◌≡◌, ◌≢◌, ℕ, suc, zero, ◌+◌, ◌<◌, ◌≤◌, Bool, true, false, not, cond, List, [], ◌∷◌, ◌++◌, Option, Some, None, refl, arith, ap, subst, sym, ◌∙◌}
+use Rattle.std.proofs.Common.{◌≡◌, ◌≢◌, ℕ, ◌+◌, Bool, true, false, not, cond, List, [], ◌∷◌, ◌++◌, Option, refl, arith, ap, subst, sym, ◌∙◌}
 use Rattle.std.specs.Bool.{◌==◌}
 use Rattle.std.specs.List.{AllByRecursion}
 use Rattle.std.specs.Prelude.{filter}
@@ -13,7 +13,7 @@ use Rattle.kernel_model.specs.Base.{current_in, waiting_in}
 use Rattle.kernel_model.specs.Queues.{queue_in}
 use Rattle.kernel_model.proofs.Sorting.{alike_filter, filter_sort, sort_alike, sort_behind}
 use Rattle.kernel_model.proofs.Filters as filters
-use Rattle.kernel_model.proofs.ReadyLists.{AreSameBut, alike_at}
+use Rattle.kernel_model.proofs.ReadyLists.{AreSameBut}
 use Rattle.kernel_base.specs.Waiting.{priority_at, queued_in, waits_at}
 
 pub differs_of : (n t : ℕ) → not (n == t) ≡ true → n ≢ t
@@ -50,12 +50,12 @@ abbrev pub placed : Order → (ℕ → ℕ) → ℕ → List ℕ → List ℕ
 placed Fifo key t ids = ids ++ t ∷ []
 placed Priority key t ids = insert_behind key t ids
 
-pub queued_joined : (by : Order) (t object : ℕ) (tasks changed : List (Option Task)) (order moved since later : List ℕ) → AreSameBut t tasks changed → waits_at changed object t ≡ true → moved ≡ to_back t order → (by ≡ Fifo → later ≡ to_back t since) →
+pub queued_joined : (by : Order) (t object : ℕ) (tasks changed : List (Option Task)) (order moved since later : List ℕ) → AreSameBut t tasks changed → waits_at changed object t ≡ true → (by ≡ Priority → moved ≡ to_back t order) → (by ≡ Fifo → later ≡ to_back t since) →
     queued_in by changed moved later object ≡ placed by (priority_at changed) t (without t (queued_in by tasks order since object))
 queued_joined Fifo t object tasks changed order moved since later same waits last latest =
     ap (filter (waits_at changed object)) (latest refl) ∙ filters.filter_back (waits_at tasks object) (waits_at changed object) t since (tests_alike t object tasks changed same) waits
 queued_joined Priority t object tasks changed order moved since later same waits last latest =
-    ap (sort_by (priority_at changed)) (ap (filter (waits_at changed object)) last ∙ filters.filter_back (waits_at tasks object) (waits_at changed object) t order (tests_alike t object tasks changed same) waits)
+    ap (sort_by (priority_at changed)) (ap (filter (waits_at changed object)) (last refl) ∙ filters.filter_back (waits_at tasks object) (waits_at changed object) t order (tests_alike t object tasks changed same) waits)
     ∙ (sort_behind (priority_at changed) t (without t (filter (waits_at tasks object) order))
     ∙ ap (insert_behind (priority_at changed) t) (sorted_without t tasks changed (filter (waits_at tasks object) order) same))
 

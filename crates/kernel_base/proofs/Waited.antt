@@ -1,8 +1,8 @@
 -- The queue of the tasks that wait is that of the table and the orders after every change.
-use Rattle.std.proofs.Common.{◌≡◌, ◌≢◌, ℕ, ◌+◌, ◌<◌, ◌≤◌, Bool, true, false, not, cond, List, [], ◌∷◌, ◌++◌, append-nil, length, Option, Some, None, map, refl, arith, ap, subst, sym, ◌∙◌}
+use Rattle.std.proofs.Common.{◌≡◌, ◌≢◌, ℕ, ◌<◌, ◌≤◌, Bool, true, false, not, cond, List, [], ◌∷◌, ◌++◌, append-nil, length, Option, Some, None, map, refl, arith, ap, subst, sym, ◌∙◌}
 use Rattle.std.specs.Bool.{◌==◌}
-use Rattle.std.specs.List.{AllByRecursion, list_any}
-use Rattle.std.specs.Prelude.{filter, replicate, slice_get, slice_set}
+use Rattle.std.specs.List.{AllByRecursion}
+use Rattle.std.specs.Prelude.{filter, replicate, slice_set}
 use Rattle.std.proofs.lemmas.Bool.Decides.{nat_tests}
 use Rattle.std.proofs.lemmas.List.{length-replicate}
 use Rattle.std.proofs.lemmas.List.Elements.{filter-append}
@@ -19,18 +19,17 @@ use Rattle.ready_queue.proofs.Keyed.{all_differ, gone, none_left_out}
 use Rattle.std.proofs.lemmas.Bool.{or_parts}
 use Rattle.kernel_model.specs.Orders.{entry, to_back, without}
 use Rattle.kernel_model.specs.Once.{times}
-use Rattle.kernel_model.specs.Base.{Base, current_in, is_waiting, queue, task_at, waiting_in, waits_in, waits_somewhere}
-use Rattle.kernel_model.specs.Queues.{AreOfOrder, order_of_first, queue_at, queue_in}
+use Rattle.kernel_model.specs.Base.{Base, current_in, waiting_in, waits_in, waits_somewhere}
+use Rattle.kernel_model.specs.Queues.{AreOfOrder, queue_in}
 use Rattle.kernel_model.proofs.ReadyLists.{AreSameBut, alike_at, entry_written, same_but_written}
 use Rattle.kernel_model.proofs.Tables.{entry_same, itself}
 use Rattle.kernel_model.proofs.Sorting.{not_here}
 use Rattle.kernel_model.proofs.Filters.{filter_absent}
 use Rattle.kernel_model.proofs.Once.{times_append}
 use Rattle.kernel_model.proofs.WaitOrders.{none_there}
-use Rattle.kernel_base.specs.Queues.{behind}
-use Rattle.kernel_base.specs.Waiting.{AreWaits, IsQueue, IsWaiter, MayQueue, most_objects, next_waiting, object_of, phase_in, priority_at, queued_in, restamped, restamped_by, rewaited, waiter_as, waiter_at, waits_at}
-use Rattle.kernel_base.proofs.WaitLists.{AllQueue, all_filter, all_queued, fifo_alike, not_queued, queued_alike, queued_either, queued_joined, queued_left, same_id, times_other}
-use Rattle.kernel_base.proofs.WaiterLists.{all_waiters, each_of_queues, first_stands, next_stands, noted_stand, queue_without, reordered_noted, rewaited_elsewhere, rewaited_queue}
+use Rattle.kernel_base.specs.Waiting.{AreWaits, IsQueue, IsWaiter, MayQueue, most_objects, phase_in, priority_at, queued_in, restamped, restamped_by, rewaited, waiter_at, waits_at}
+use Rattle.kernel_base.proofs.WaitLists.{AllQueue, all_queued, fifo_alike, not_queued, queued_alike, queued_either, queued_joined, queued_left, same_id, times_other}
+use Rattle.kernel_base.proofs.WaiterLists.{all_waiters, each_of_queues, noted_stand, queue_without, reordered_noted, rewaited_elsewhere, rewaited_queue}
 
 -- ---- rows
 
@@ -55,10 +54,11 @@ one_object_by (Waiting at) object other first second = sym (same_id at object fi
 
 -- ---- one queue
 
-each_other : (t object u : ℕ) (by : Order) (tasks changed : List (Option Task)) (since later : List ℕ) → AreSameBut t tasks changed → without t later ≡ without t since → u ≢ t → IsWaiter object by since u (entry tasks u) → IsWaiter object by later u (entry changed u)
-each_other t object u by tasks changed since later same others differs is = record {
+each_other : (t object u : ℕ) (by : Order) (tasks changed : List (Option Task)) (order moved since later : List ℕ) → AreSameBut t tasks changed → without t moved ≡ without t order → without t later ≡ without t since → u ≢ t → IsWaiter object by order since u (entry tasks u) → IsWaiter object by moved later u (entry changed u)
+each_other t object u by tasks changed order moved since later same others_order others differs is = record {
   below = is.below;
   alike = ap queue_in (same.elsewhere u differs) ∙ is.alike;
+  ranks = let as_often = times_other u t order moved differs others_order in let one = is.ranks in omega arith;
   stands = let as_often = times_other u t since later differs others in let one = is.stands in omega arith;
 }
 
@@ -72,31 +72,33 @@ queue_off t object tasks changed order moved since later list left same idle oth
   by = is.by;
   each = λ u waits.
       let differs : u ≢ t = other_waits t object u changed idle waits in
-      each_other t object u is.by tasks changed since later same others_since differs (is.each u (sym (ap (waiting_in object) (same.elsewhere u differs)) ∙ waits));
+      each_other t object u is.by tasks changed order moved since later same others_order others_since differs (is.each u (sym (ap (waiting_in object) (same.elsewhere u differs)) ∙ waits));
   stand = out ∙ (queue_without t object (queued_in is.by tasks order since object) list tasks changed same is.stand
       ∙ ap (map (waiter_at changed object)) (sym (queued_left is.by t object tasks changed order moved since later same idle others_order others_since)));
 }
 
 -- a task whose slot is written and that joins the queue that it waits in
 pub record Joins (t : ℕ) (slot : Option Task) (tasks : List (Option Task)) (order moved since later : List ℕ) : Type 0 where
+  pub others_order : without t moved ≡ without t order
   pub others : without t later ≡ without t since
+  pub ranks : (object : ℕ) → waiting_in object slot ≡ true → 1 ≤ times t moved
   pub stands : (object : ℕ) → waiting_in object slot ≡ true → 1 ≤ times t later
-  pub last : moved ≡ to_back t order
+  pub last : queue_in slot ≡ Priority → moved ≡ to_back t order
   pub latest : queue_in slot ≡ Fifo → later ≡ to_back t since
   pub below : (object : ℕ) → waiting_in object slot ≡ true → object < most_objects
   pub alike : (object : ℕ) → waiting_in object slot ≡ true → AllQueue (queue_in slot) tasks object
 
 on_each : (t object u : ℕ) (slot : Option Task) (test : Bool) (tasks changed : List (Option Task)) (order moved since later : List ℕ) (list : List Waiter) → (u == t) ≡ test → AreSameBut t tasks changed → entry changed t ≡ slot → waiting_in object slot ≡ true →
-    Joins t slot tasks order moved since later → IsQueue tasks order since list object → waits_at changed object u ≡ true → IsWaiter object (queue_in slot) later u (entry changed u)
+    Joins t slot tasks order moved since later → IsQueue tasks order since list object → waits_at changed object u ≡ true → IsWaiter object (queue_in slot) moved later u (entry changed u)
 on_each t object u slot true tasks changed order moved since later list is same at waits joins was there =
-    subst (λ (n : ℕ). IsWaiter object (queue_in slot) later n (entry changed n)) (sym (same_id u t is))
-    (record { below = joins.below object waits; alike = ap queue_in at; stands = joins.stands object waits })
+    subst (λ (n : ℕ). IsWaiter object (queue_in slot) moved later n (entry changed n)) (sym (same_id u t is))
+    (record { below = joins.below object waits; alike = ap queue_in at; ranks = joins.ranks object waits; stands = joins.stands object waits })
 on_each t object u slot false tasks changed order moved since later list is same at waits joins was there =
     let differs : u ≢ t = λ own. grind (arith, nat_tests, is, own) in
     let before : waits_at tasks object u ≡ true = sym (ap (waiting_in object) (same.elsewhere u differs)) ∙ there in
-    let had : IsWaiter object was.by since u (entry tasks u) = was.each u before in
-    each_other t object u (queue_in slot) tasks changed since later same joins.others differs
-    (record { below = had.below; alike = joins.alike object waits u before; stands = had.stands })
+    let had : IsWaiter object was.by order since u (entry tasks u) = was.each u before in
+    each_other t object u (queue_in slot) tasks changed order moved since later same joins.others_order joins.others differs
+    (record { below = had.below; alike = joins.alike object waits u before; ranks = had.ranks; stands = had.stands })
 
 queue_on : (t object : ℕ) (slot : Option Task) (tasks changed : List (Option Task)) (order moved since later : List ℕ) (list : List Waiter) → AreSameBut t tasks changed → entry changed t ≡ slot → waiting_in object slot ≡ true →
     Joins t slot tasks order moved since later → IsQueue tasks order since list object → IsQueue changed moved later (rewaited t slot list) object
@@ -122,7 +124,7 @@ queue_joined : (waits : Bool) (t object : ℕ) (slot : Option Task) (tasks chang
     Joins t slot tasks order moved since later → IsQueue tasks order since list object → IsQueue changed moved later (rewaited t slot list) object
 queue_joined true t object slot tasks changed order moved since later list is same at joins was = queue_on t object slot tasks changed order moved since later list same at is joins was
 queue_joined false t object slot tasks changed order moved since later list is same at joins was =
-    queue_off t object tasks changed order moved since later list (rewaited t slot list) same (ap (waiting_in object) at ∙ is) (ap (without t) joins.last ∙ without_back t order) joins.others
+    queue_off t object tasks changed order moved since later list (rewaited t slot list) same (ap (waiting_in object) at ∙ is) joins.others_order joins.others
     (rewaited_elsewhere slot object t list is) was
 
 -- ---- all queues
@@ -148,10 +150,11 @@ waits_alike : (t object : ℕ) (tasks changed : List (Option Task)) → AreSameB
 waits_alike t object tasks changed same phase = λ u.
     alike_at (waiting_in object) t tasks changed u (u == t) refl same (waiting_phase (entry changed t) object ∙ (ap (waits_in object) phase ∙ sym (waiting_phase (entry tasks t) object)))
 
-each_alike : (t object u : ℕ) (by : Order) (tasks changed : List (Option Task)) (since : List ℕ) → AreSameBut t tasks changed → queue_in (entry changed t) ≡ queue_in (entry tasks t) → IsWaiter object by since u (entry tasks u) → IsWaiter object by since u (entry changed u)
-each_alike t object u by tasks changed since same order is = record {
+each_alike : (t object u : ℕ) (by : Order) (tasks changed : List (Option Task)) (order since : List ℕ) → AreSameBut t tasks changed → queue_in (entry changed t) ≡ queue_in (entry tasks t) → IsWaiter object by order since u (entry tasks u) → IsWaiter object by order since u (entry changed u)
+each_alike t object u by tasks changed order since same order_same is = record {
   below = is.below;
-  alike = alike_at queue_in t tasks changed u (u == t) refl same order ∙ is.alike;
+  alike = alike_at queue_in t tasks changed u (u == t) refl same order_same ∙ is.alike;
+  ranks = is.ranks;
   stands = is.stands;
 }
 
@@ -172,7 +175,7 @@ waits_kept t tasks changed order since waits same phase order_same current was =
   objects = was.objects;
   queues = λ object. let is = was.queues object in record {
     by = is.by;
-    each = λ u there. each_alike t object u is.by tasks changed since same order_same (is.each u (sym (waits_alike t object tasks changed same phase u) ∙ there));
+    each = λ u there. each_alike t object u is.by tasks changed order since same order_same (is.each u (sym (waits_alike t object tasks changed same phase u) ∙ there));
     stand = is.stand ∙ (sym (waiters_alike object (queued_in is.by tasks order since object) tasks changed (waiter_alike t object tasks changed same order_same current))
         ∙ ap (map (waiter_at changed object)) (sym (queued_alike is.by object tasks changed order since (waits_alike t object tasks changed same phase) (λ u. alike_at current_in t tasks changed u (u == t) refl same current))));
   };
@@ -205,13 +208,29 @@ noted_ids false t object tasks changed order since list at same phase fifo is =
     not_queued is.by t object tasks order since at
     ∙ sym (queued_left is.by t object tasks changed order (to_back t order) since since same (waits_alike t object tasks changed same phase t ∙ at) (without_back t order) refl)
 
+pub stands_back : (t : ℕ) (since : List ℕ) → 1 ≤ times t (to_back t since)
+stands_back t since =
+    let whole = times_append t (without t since) (t ∷ []) in
+    let own : times t (t ∷ []) ≡ 1 = rw (itself t) (omega arith) in
+    omega arith
+
+pub times_back : (u t : ℕ) (test : Bool) (order : List ℕ) → (u == t) ≡ test → 1 ≤ times u order → 1 ≤ times u (to_back t order)
+times_back u t true order is one = subst (λ (n : ℕ). 1 ≤ times n (to_back t order)) (sym (same_id u t is)) (stands_back t order)
+times_back u t false order is one =
+    let differs : u ≢ t = λ own. grind (arith, nat_tests, is, own) in
+    let as_often = times_other u t order (to_back t order) differs (without_back t order) in
+    omega arith
+
+ranked_back : (t object u : ℕ) (by : Order) (tasks changed : List (Option Task)) (order since : List ℕ) → IsWaiter object by order since u (entry changed u) → IsWaiter object by (to_back t order) since u (entry changed u)
+ranked_back t object u by tasks changed order since is = record { below = is.below; alike = is.alike; ranks = times_back u t (u == t) order refl is.ranks; stands = is.stands }
+
 waits_noted : (t priority : ℕ) (tasks changed : List (Option Task)) (order since : List ℕ) (old : WaitTable) → AreSameBut t tasks changed → phase_in (entry changed t) ≡ phase_in (entry tasks t) → queue_in (entry changed t) ≡ queue_in (entry tasks t) → queue_in (entry tasks t) ≡ Fifo → priority ≡ priority_at changed t →
     AreWaits tasks order since old → AreWaits changed (to_back t order) since (record old { waiters = reordered t priority old.waiters })
 waits_noted t priority tasks changed order since old same phase order_same fifo current was = record {
   objects = was.objects;
   queues = λ object. let is = was.queues object in record {
     by = is.by;
-    each = λ u there. each_alike t object u is.by tasks changed since same order_same (is.each u (sym (waits_alike t object tasks changed same phase u) ∙ there));
+    each = λ u there. ranked_back t object u is.by tasks changed order since (each_alike t object u is.by tasks changed order since same order_same (is.each u (sym (waits_alike t object tasks changed same phase u) ∙ there)));
     stand = ap (queue_of object) (reordered_noted t priority old.waiters (noted_each t tasks order since old fifo was))
         ∙ (noted_stand t priority object (queued_in is.by tasks order since object) old.waiters tasks changed same order_same current is.stand
         ∙ ap (map (waiter_at changed object)) (noted_ids (waits_at tasks object t) t object tasks changed order since old.waiters refl same phase fifo is));
@@ -227,9 +246,11 @@ restamp_joins t slot tasks order since waits phase order_same by was =
     let before : (object : ℕ) → waiting_in object slot ≡ true → waits_at tasks object t ≡ true = λ object there.
     waiting_phase (entry tasks t) object ∙ (ap (waits_in object) (sym phase) ∙ (sym (waiting_phase slot object) ∙ there)) in
     record {
+      others_order = without_back t order;
       others = refl;
+      ranks = λ object there. stands_back t order;
       stands = λ object there. ((was.queues object).each t (before object there)).stands;
-      last = refl;
+      last = λ priority. refl;
       latest = λ fifo. fifo_not_priority (queue_in slot) (since ≡ to_back t since) by fifo;
       below = λ object there. ((was.queues object).each t (before object there)).below;
       alike = λ object there u waits_there.
@@ -279,21 +300,17 @@ may_restamp t slot tasks order since old phase order_same was =
           (λ u waits_there. (is.each u waits_there).alike ∙ (sym (is.each t (before object there)).alike ∙ sym order_same)) is;
     }
 
-stands_back : (t : ℕ) (since : List ℕ) → 1 ≤ times t (to_back t since)
-stands_back t since =
-    let whole = times_append t (without t since) (t ∷ []) in
-    let own : times t (t ∷ []) ≡ 1 = rw (itself t) (omega arith) in
-    omega arith
-
 -- a task begins to wait
 pub wait_joins : (t object : ℕ) (by : Order) (k : Task) (tasks : List (Option Task)) (order moved since later : List ℕ) → object < most_objects → AllQueue by tasks object → k.phase ≡ Waiting object → k.queue ≡ by → moved ≡ to_back t order → later ≡ to_back t since →
     Joins t (Some k) tasks order moved since later
 wait_joins t object by k tasks order moved since later low alike phase order_is last latest =
     let own : (other : ℕ) → waiting_in other (Some k) ≡ true → object ≡ other = λ other there. same_id object other (sym (ap (waits_in other) phase) ∙ there) in
     record {
+      others_order = ap (without t) last ∙ without_back t order;
       others = ap (without t) latest ∙ without_back t since;
+      ranks = λ other there. subst (λ (ids : List ℕ). 1 ≤ times t ids) (sym last) (stands_back t order);
       stands = λ other there. subst (λ (ids : List ℕ). 1 ≤ times t ids) (sym latest) (stands_back t since);
-      last = last;
+      last = λ priority. last;
       latest = λ fifo. latest;
       below = λ other there. subst (λ (n : ℕ). n < most_objects) (own other there) low;
       alike = λ other there. subst (λ (n : ℕ). AllQueue k.queue tasks n) (own other there) (subst (λ (o : Order). AllQueue o tasks object) (sym order_is) alike);
@@ -379,7 +396,7 @@ pub left_in_place : (t : ℕ) (slot : Option Task) (tasks : List (Option Task)) 
 left_in_place t slot tasks order since old new within idle is was =
     waits_left t tasks (slice_set tasks t slot) order order since since old new (same_but_written t slot tasks) (ap waits_somewhere (entry_written t slot tasks within) ∙ idle) refl refl is was
 
-without_twice : (t : ℕ) (order : List ℕ) → without t (without t order) ≡ without t order
+pub without_twice : (t : ℕ) (order : List ℕ) → without t (without t order) ≡ without t order
 without_twice t order = filter_absent (λ u. not (u == t)) t order (ap not (itself t))
 
 pub left_erased : (t : ℕ) (tasks : List (Option Task)) (order left since : List ℕ) (old new : WaitTable) → left ≡ without t order → new ≡ record old { waiters = without_waiter t old.waiters } → AreWaits tasks order since old → AreWaits (slice_set tasks t None) left since new
@@ -395,7 +412,7 @@ since_without t tasks order since left table idle out was = record {
       let after = queued_left is.by t object tasks tasks order order since left (record { elsewhere = λ n differs. refl }) (idle_slot (entry tasks t) object idle) refl (ap (without t) out ∙ without_twice t since) in
       record {
         by = is.by;
-        each = λ u there. each_other t object u is.by tasks tasks since left (record { elsewhere = λ n differs. refl }) (ap (without t) out ∙ without_twice t since) (other_waits t object u tasks (idle_slot (entry tasks t) object idle) there) (is.each u there);
+        each = λ u there. each_other t object u is.by tasks tasks order order since left (record { elsewhere = λ n differs. refl }) refl (ap (without t) out ∙ without_twice t since) (other_waits t object u tasks (idle_slot (entry tasks t) object idle) there) (is.each u there);
         stand = is.stand ∙ ap (map (waiter_at tasks object)) (stays ∙ sym after);
       };
 }
@@ -409,7 +426,7 @@ since_back t tasks order since later table idle out was = record {
       let after = queued_left is.by t object tasks tasks order order since later (record { elsewhere = λ n differs. refl }) (idle_slot (entry tasks t) object idle) refl (ap (without t) out ∙ without_back t since) in
       record {
         by = is.by;
-        each = λ u there. each_other t object u is.by tasks tasks since later (record { elsewhere = λ n differs. refl }) (ap (without t) out ∙ without_back t since) (other_waits t object u tasks (idle_slot (entry tasks t) object idle) there) (is.each u there);
+        each = λ u there. each_other t object u is.by tasks tasks order order since later (record { elsewhere = λ n differs. refl }) refl (ap (without t) out ∙ without_back t since) (other_waits t object u tasks (idle_slot (entry tasks t) object idle) there) (is.each u there);
         stand = is.stand ∙ ap (map (waiter_at tasks object)) (stays ∙ sym after);
       };
 }

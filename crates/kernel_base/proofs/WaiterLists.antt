@@ -1,9 +1,9 @@
 -- The queue of the tasks that wait, as the tasks of a table.
-use Rattle.std.proofs.Common.{◌≡◌, ◌≢◌, ℕ, ◌+◌, Bool, true, false, not, ◌&&◌, nat_lt, cond, List, [], ◌∷◌, ◌++◌, Option, Some, None, map, refl, arith, ap, subst, sym, ◌∙◌}
+use Rattle.std.proofs.Common.{◌≡◌, ◌≢◌, ℕ, Bool, true, false, not, ◌&&◌, nat_lt, cond, List, [], ◌∷◌, ◌++◌, Option, Some, None, map, refl, arith, ap, subst, sym, ◌∙◌}
 use Rattle.std.specs.Bool.{◌==◌}
-use Rattle.std.specs.List.{AllByRecursion, list_any}
+use Rattle.std.specs.List.{AllByRecursion}
 use Rattle.std.specs.Prelude.{filter, slice_get}
-use Rattle.std.proofs.lemmas.Bool.{and_parts, or_parts}
+use Rattle.std.proofs.lemmas.Bool.{and_parts}
 use Rattle.std.proofs.lemmas.Bool.Decides.{nat_tests}
 use Rattle.tk_types.specs.declared.task.Task.{Task}
 use Rattle.tk_types.specs.declared.task.Phase.{Phase}
@@ -15,12 +15,12 @@ use Rattle.wait_queue.specs.Queues.{first_moved, first_task, goes_ahead, is_ahea
 use Rattle.wait_queue.proofs.Others.{join_keeps_others, leaves_queue}
 use Rattle.ready_queue.proofs.Found.{here_is, not_here}
 use Rattle.kernel_model.specs.Orders.{entry, insert_behind, without}
-use Rattle.kernel_model.specs.Base.{current_in, waiting_in, waits_in}
+use Rattle.kernel_model.specs.Base.{waiting_in, waits_in}
 use Rattle.kernel_model.specs.Queues.{queue_in}
 use Rattle.kernel_model.proofs.ReadyLists.{AreSameBut}
 use Rattle.kernel_model.proofs.Tables.{itself}
 use Rattle.kernel_base.specs.Queues.{behind}
-use Rattle.kernel_base.specs.Waiting.{priority_at, rewaited, waiter_as, waiter_at, waits_at}
+use Rattle.kernel_base.specs.Waiting.{priority_at, rewaited, waiter_as, waiter_at}
 use Rattle.kernel_base.proofs.WaitLists.{differs_of, placed, same_id}
 
 -- ---- choices
@@ -111,7 +111,7 @@ joined_behind waiter tasks object t (id ∷ ids) is order =
     let test : Bool = nat_lt (priority_at tasks t) (priority_at tasks id) in
     ap (λ b. cond b (waiter ∷ first ∷ rest) (first ∷ joined waiter rest)) (ahead_by waiter first tasks object t id is refl order)
     ∙ (both_same test (waiter ∷ first ∷ rest) (first ∷ joined waiter rest) (map (waiter_at tasks object) (t ∷ id ∷ ids)) (map (waiter_at tasks object) (id ∷ insert_behind (priority_at tasks) t ids))
-      (ap (λ (w : Waiter). w ∷ first ∷ rest) is) (ap (λ list. first ∷ list) (joined_behind waiter tasks object t ids is order))
+    (ap (λ (w : Waiter). w ∷ first ∷ rest) is) (ap (λ list. first ∷ list) (joined_behind waiter tasks object t ids is order))
     ∙ sym (map_cond (waiter_at tasks object) test (t ∷ id ∷ ids) (id ∷ insert_behind (priority_at tasks) t ids)))
 
 joined_as : (by : Order) (tasks : List (Option Task)) (object t : ℕ) (ids : List ℕ) → queue_in (entry tasks t) ≡ by → joined (waiter_at tasks object t) (map (waiter_at tasks object) ids) ≡ map (waiter_at tasks object) (placed by (priority_at tasks) t ids)
@@ -153,9 +153,9 @@ rewaited_queue by slot t object ids list tasks changed same at waits order stand
 
 -- ---- a priority is noted
 
-noted_step : (own test : Bool) (first after : Waiter) (rest passed : List Waiter) (object : ℕ) → is_of_object object after ≡ is_of_object object first → queue_of object rest ≡ passed →
+noted_step : (first after : Waiter) (rest passed : List Waiter) (object : ℕ) → is_of_object object after ≡ is_of_object object first → queue_of object rest ≡ passed →
     queue_of object (after ∷ rest) ≡ cond (is_of_object object first) (after ∷ passed) passed
-noted_step own test first after rest passed object same more = ap (λ b. cond b (after ∷ queue_of object rest) (queue_of object rest)) same ∙ ap (λ list. cond (is_of_object object first) (after ∷ list) list) more
+noted_step first after rest passed object same more = ap (λ b. cond b (after ∷ queue_of object rest) (queue_of object rest)) same ∙ ap (λ list. cond (is_of_object object first) (after ∷ list) list) more
 
 noted_object : (test : Bool) (priority object : ℕ) (first : Waiter) → is_of_object object (cond test (with_priority priority first) first) ≡ is_of_object object first
 noted_object true priority object first = refl
@@ -168,7 +168,7 @@ noted_cond false task priority first passed = refl
 noted_queue : (task priority object : ℕ) (list : List Waiter) → queue_of object (noted task priority list) ≡ noted task priority (queue_of object list)
 noted_queue task priority object [] = refl
 noted_queue task priority object (first ∷ rest) =
-    noted_step true true first (cond (is_of_task task first) (with_priority priority first) first) (noted task priority rest) (noted task priority (queue_of object rest)) object (noted_object (is_of_task task first) priority object first) (noted_queue task priority object rest)
+    noted_step first (cond (is_of_task task first) (with_priority priority first) first) (noted task priority rest) (noted task priority (queue_of object rest)) object (noted_object (is_of_task task first) priority object first) (noted_queue task priority object rest)
     ∙ sym (noted_cond (is_of_object object first) task priority first (queue_of object rest))
 
 noted_one : (test : Bool) (t priority object id : ℕ) (tasks changed : List (Option Task)) → (id == t) ≡ test → AreSameBut t tasks changed → queue_in (entry changed t) ≡ queue_in (entry tasks t) → priority ≡ priority_at changed t →
@@ -250,6 +250,7 @@ all_waiters P tasks object (id ∷ ids) all = (all.0, all_waiters P tasks object
 pub first_stands : (tasks : List (Option Task)) (object : ℕ) (ids : List ℕ) → first_task (map (waiter_at tasks object) ids) ≡ slice_get ids 0
 first_stands tasks object [] = refl
 first_stands tasks object (id ∷ ids) = refl
+
 -- the waiters behind a task
 abbrev behind_waiter : ℕ → List Waiter → List Waiter
 behind_waiter t [] = []

@@ -1,15 +1,15 @@
 -- The queue of the tasks that wait: the waiters of each object are the tasks that wait for it, in the order of its queue,
 -- each with its current priority.
-use Rattle.std.specs.Prelude.{◌≡◌, ℕ, ◌<◌, ◌≤◌, Bool, true, List, Option, Some, None, filter, map, slice_get}
+use Rattle.std.specs.Prelude.{◌≡◌, ℕ, ◌<◌, ◌≤◌, Bool, true, List, Option, Some, None, filter, fold, map, slice_get}
 use Rattle.tk_types.specs.declared.task.Task.{Task}
 use Rattle.tk_types.specs.declared.task.Phase.{Phase}
-use Rattle.tk_types.specs.declared.task.Phase.TheVariants.{Dormant, Ready, Waiting}
+use Rattle.tk_types.specs.declared.task.Phase.TheVariants.{Dormant, Waiting}
 use Rattle.tk_types.specs.declared.task.Order.{Order}
 use Rattle.tk_types.specs.declared.task.Order.TheVariants.{Fifo, Priority}
 use Rattle.wait_queue.specs.declared.waiters.Waiter.{Waiter}
 use Rattle.wait_queue.specs.Queues.{WaitTable, joined, queue_of, reordered, without_waiter}
 use Rattle.wait_queue.specs.Facts as waiters
-use Rattle.kernel_model.specs.Orders.{entry, sort_by}
+use Rattle.kernel_model.specs.Orders.{entry, sort_by, to_back}
 use Rattle.kernel_model.specs.Once.{times}
 use Rattle.kernel_model.specs.Base.{Base, current_in, task_at, waiting_in}
 use Rattle.kernel_model.specs.Queues.{queue_at, queue_in}
@@ -39,15 +39,16 @@ abbrev pub waiter_at : List (Option Task) → ℕ → ℕ → Waiter
 waiter_at tasks object t = waiter_as object t (entry tasks t)
 
 -- what holds of a task that waits
-pub record IsWaiter (object : ℕ) (order : Order) (since : List ℕ) (t : ℕ) (slot : Option Task) : Type 0 where
+pub record IsWaiter (object : ℕ) (by : Order) (order since : List ℕ) (t : ℕ) (slot : Option Task) : Type 0 where
   pub below : object < most_objects
-  pub alike : queue_in slot ≡ order
+  pub alike : queue_in slot ≡ by
+  pub ranks : 1 ≤ times t order
   pub stands : 1 ≤ times t since
 
 -- the waiters of one object: all queue in one order, and stand in it
 pub record IsQueue (tasks : List (Option Task)) (order since : List ℕ) (list : List Waiter) (object : ℕ) : Type 0 where
   pub by : Order
-  pub each : (t : ℕ) → waits_at tasks object t ≡ true → IsWaiter object by since t (entry tasks t)
+  pub each : (t : ℕ) → waits_at tasks object t ≡ true → IsWaiter object by order since t (entry tasks t)
   pub stand : queue_of object list ≡ map (waiter_at tasks object) (queued_in by tasks order since object)
 
 -- the waiters of all objects
@@ -74,12 +75,25 @@ abbrev pub restamped : ℕ → Option Task → List Waiter → List Waiter
 restamped t None list = without_waiter t list
 restamped t (Some k) list = restamped_by k.queue t k list
 
+-- a task that takes the last place by the beginning of its wait: in a queue in that order it becomes the last
+abbrev pub renewed_by : Order → ℕ → Task → List Waiter → List Waiter
+renewed_by Fifo t k list = rewaited t (Some k) list
+renewed_by Priority t k list = list
+
+abbrev pub renewed : ℕ → Option Task → List Waiter → List Waiter
+renewed t None list = without_waiter t list
+renewed t (Some k) list = renewed_by k.queue t k list
+
+-- the IDs of a list take the last place one after another
+abbrev pub moved_back : List ℕ → List ℕ → List ℕ
+moved_back ids order = fold (λ moved id. to_back id moved) order ids
+
 -- a row may join the queue that it waits in
 pub record MayQueue (slot : Option Task) (waits : WaitTable) : Type 0 where
   pub below : (object : ℕ) → waiting_in object slot ≡ true → object < waits.objects
   pub alike : (object : ℕ) → waiting_in object slot ≡ true → waiters.AreOfOrder (queue_in slot) (queue_of object waits.waiters)
 
--- where a task is, and the queue that it waits in or last waited in
+-- where a task is; a free slot is as one that was not started
 abbrev pub phase_in : Option Task → Phase
 phase_in None = Dormant
 phase_in (Some k) = k.phase

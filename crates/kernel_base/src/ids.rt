@@ -1,6 +1,7 @@
 //! An order of task IDs, the earliest first, each at most once. Its room is taken once, for all 256.
 
-ghost use Rattle.std.specs.Prelude.{◌≡◌, ◌∷◌, IfOk, [], vec_capacity};
+ghost use Rattle.std.specs.Prelude.{◌≡◌, ◌≤◌, ◌∷◌, IfOk, [], length, take, vec_capacity};
+ghost use Rattle.kernel_model.specs.Once.{IsOnce};
 ghost use Rattle.kernel_model.specs.Orders.{to_back, without};
 
 use std::alloc::{AllocError, Global};
@@ -21,6 +22,29 @@ impl Model for Ids {
     ghost view = { λ ids. ids.list.items };
 
     ghost invariant = { λ ids. IsOrder ids.list.items (vec_capacity ids.list) };
+}
+
+/// What an order was at one time: so many IDs.
+#[derive(Clone, Copy)]
+pub(crate) struct Listed {
+    pub(crate) ids: [u8; 256],
+    pub(crate) count: usize,
+}
+
+/// The IDs of a list.
+fn copied(list: &[u8]) -> Listed
+    requires { length list.now ≤ 256 }
+    ensures count { result.count ≡ length list.now }
+    ensures ids { take result.count result.ids ≡ list.now }
+{
+    let mut ids = [0; 256];
+    'places: for place in 0..list.len() {
+        ids[place] = list[place];
+    }
+    Listed {
+        ids,
+        count: list.len(),
+    }
 }
 
 /// Takes an ID out of a list.
@@ -62,6 +86,15 @@ impl Ids {
     {
         take_out(&mut self.list, id);
         self.list.push_reserved(id);
+    }
+
+    /// What the order is now.
+    pub(crate) fn listed(&self) -> Listed
+        ensures ids { take result.count result.ids ≡ self.now }
+        ensures few { result.count ≤ 256 }
+        ensures once { IsOnce self.now }
+    {
+        copied(self.list.as_slice())
     }
 
     /// The IDs in order.

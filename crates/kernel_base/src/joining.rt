@@ -2,7 +2,7 @@
 
 ghost use Rattle.std.specs.Prelude.{◌≡◌, true};
 ghost use Rattle.kernel_base.specs.Ready.{fits_slot, is_priority};
-ghost use Rattle.kernel_base.specs.Waiting.{MayQueue, restamped, rewaited};
+ghost use Rattle.kernel_base.specs.Waiting.{MayQueue, renewed, restamped, rewaited};
 ghost use Rattle.wait_queue.specs.Queues.{WaitTable, reordered, without_waiter};
 
 use std::marker::Brand;
@@ -86,6 +86,21 @@ fn reorder(waits: &mut Waits, task: u8, pri: u8)
     ensures { waits.new ≡ record waits.old { waiters = reordered task pri waits.old.waiters } }
 {
     reorder_counted::<Brand>(waits, task, pri, Blank::new(1));
+}
+
+/// A task takes the last place by the beginning of its wait: in a queue in that order it becomes the last.
+pub(crate) fn renew(waits: &mut Waits, task: u8, slot: Option<Task>)
+    requires priorities { fits_slot slot ≡ true }
+    requires queue { MayQueue slot waits.old }
+    ensures { waits.new ≡ record waits.old { waiters = renewed task slot waits.old.waiters } }
+{
+    let Some(row) = slot else {
+        return leave(waits, task);
+    };
+    match row.queue {
+        Order::Fifo => rejoin(waits, task, slot),
+        Order::Priority => {}
+    }
 }
 
 /// A task takes a new stamp, and maybe another priority: in a queue by priority it becomes the last of its equals.

@@ -12,6 +12,7 @@ mod priorities;
 mod queueing;
 mod reading;
 mod releases;
+mod restoring;
 mod rows;
 mod suspending;
 mod view;

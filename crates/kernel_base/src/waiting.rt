@@ -1,7 +1,7 @@
-//! Waits begin and end, and who waits.
+//! Waits begin, move and end, and who waits.
 
 ghost use Rattle.std.specs.Prelude.{◌≡◌, ◌<◌, ◌^◌, length, slice_get, true};
-ghost use Rattle.kernel_model.specs.Base.{back_unless_suspended, is_waiting, make_wait, queue, release, with_task};
+ghost use Rattle.kernel_model.specs.Base.{back_unless_suspended, is_waiting, make_wait, move_wait, queue, release, with_task};
 ghost use Rattle.tk_types.specs.declared.task.Phase.TheVariants.{Ready};
 ghost use Rattle.kernel_model.specs.Orders.{head_or_zero};
 ghost use Rattle.kernel_model.specs.Queues.{AreOfOrder, queue_at};
@@ -47,6 +47,23 @@ impl Base {
             self.due
                 .add(self.time + tmout as u64 + 1, Event::Wait(task));
         }
+    }
+
+    /// A task that waits waits for another object from now on, without a limit, at the place that its stamp or the
+    /// beginning of its wait gives it there. The object's number is below 1,024, and its waiters queue in this order.
+    pub fn move_wait(&mut self, task: u8, obj: u32, order: Order)
+        requires object { obj < 1024 }
+        requires order { AreOfOrder order self.old obj }
+        ensures { self.new ≡ move_wait self.old task obj order }
+    {
+        let Some(row) = self.slot(task) else {
+            return;
+        };
+        if !is_waiting_phase(row.phase) {
+            return;
+        }
+        self.write_moved(task, row, obj, order);
+        self.due.drop_wait(task);
     }
 
     /// A task's wait ends with an answer: it becomes READY, the last among its equals, or stays suspended. The end is

@@ -1,13 +1,11 @@
 -- Every step leaves the tasks that wait for an object in the order of the beginning of their waits: no call makes a task
 -- wait in another one.
-use Rattle.std.proofs.Common.{◌≡◌, ℕ, suc, zero, ◌+◌, ◌-◌, ◌≤◌, ◌<◌, Bool, true, false, cond, List, [], ◌∷◌, Option, Some, None, refl, sym, subst, ℤ, pos, negsuc}
+use Rattle.std.proofs.Common.{◌≡◌, ℕ, suc, zero, ◌+◌, ◌-◌, Bool, true, false, cond, List, [], ◌∷◌, Option, Some, None, refl, sym, subst, ℤ, pos, negsuc}
 use Rattle.std.specs.Bool.{◌==◌}
 use Rattle.std.specs.Prelude.{fold, drop, length, unwrap_or, slice_set, slice_index, replicate}
 use Rattle.std.specs.Ordering.{int_eq}
-use Rattle.std.proofs.lemmas.Bool.Decides.{nat_tests}
 use Rattle.tk_types.specs.declared.script.Script.{Script}
 use Rattle.tk_types.specs.declared.task.Task.{Task}
-use Rattle.tk_types.specs.declared.task.Order.{Order}
 use Rattle.tk_types.specs.declared.task.Order.TheVariants.{Fifo}
 use Rattle.tk_types.specs.declared.task.Release.{Release}
 use Rattle.tk_types.specs.declared.task.Event.{Event as DueKind}
@@ -16,29 +14,28 @@ use Rattle.tk_types.specs.declared.answer.Who.{Who}
 use Rattle.tk_types.specs.declared.answer.Answer.{Answer}
 use Rattle.tk_types.specs.declared.answer.Outcome.{Outcome}
 use Rattle.tk_types.specs.declared.answer.Outcome.TheVariants as outcomes
-use Rattle.tk_types.specs.declared.error_code.Er.{Er}
 use Rattle.tk_types.specs.declared.calls.Call.{Call}
 use Rattle.tk_types.specs.declared.calls.Call.TheVariants as calls
 use Rattle.tk_types.specs.declared.calls.TaskCall.{TaskCall}
 use Rattle.tk_types.specs.declared.calls.TaskCall.TheVariants as call
 use Rattle.tk_types.specs.declared.run.Act.{Act}
 use Rattle.tk_types.specs.declared.run.Act.TheVariants as acts
-use Rattle.kernel_model.specs.Checks.{Check, ◌otherwise◌, first_error, natural, within, plain, failed, done}
+use Rattle.kernel_model.specs.Checks.{◌otherwise◌, natural, within, plain, failed, done}
 use Rattle.kernel_model.specs.Orders.{entry, without, to_back}
 use Rattle.kernel_model.specs.Views.{is_current}
 use Rattle.tk_types.specs.Codes.{code_of}
 use Rattle.tk_types.specs.declared.error_code.Er.TheVariants as er
 use Rattle.tk_types.specs.declared.task.Phase.TheVariants.{Dormant, Ready, Waiting}
-use Rattle.kernel_model.specs.Base.{Base, task_at, with_entry, with_task, limited, current, chosen, free_task, has_room, is_waiting_phase, back_unless_suspended, recorded, wakeups_of, waits_for, waiting_in, base_start, gone, drop_wait, take_due, advance, take_bytes, create, delete, make_ready, make_wait, make_dormant, release, suspend, resume, resumed, set_base, set_current, set_wakeups, rotate}
+use Rattle.kernel_model.specs.Base.{Base, task_at, with_task, limited, current, chosen, free_task, has_room, is_waiting_phase, back_unless_suspended, recorded, wakeups_of, waits_for, waiting_in, base_start, gone, drop_wait, take_due, advance, take_bytes, create, delete, make_ready, make_wait, make_dormant, release, suspend, resume, resumed, set_base, set_current, set_wakeups, rotate}
 use Rattle.kernel_model.specs.Events.{due_event}
 use Rattle.kernel_model.specs.Priority.{refresh, resettle, taken_from, current_of}
-use Rattle.kernel_model.specs.TaskCalls.{TaskDone, checked, unless_error, finished, task_call, create_task, delete_task, start_task, exit_task, terminate_task, change_priority, rotate_ready, get_task, refer_task, sleep, delay, wake_up, cancel_wakeups, release_wait, suspend_task, resume_task, create_checks, delete_checks, start_checks, terminate_checks, change_checks, named_checks, waiting_checks, wake_up_checks, cancel_checks, release_checks, suspend_checks, resume_checks, slept, delayed, woken, rebased, new_base, named, rotated_priority, shown, enabled_after, caller, sleep_object, delay_object}
+use Rattle.kernel_model.specs.TaskCalls.{TaskDone, finished, task_call, create_task, delete_task, start_task, exit_task, terminate_task, change_priority, rotate_ready, get_task, refer_task, sleep, delay, wake_up, cancel_wakeups, release_wait, suspend_task, resume_task, create_checks, delete_checks, start_checks, terminate_checks, change_checks, named_checks, waiting_checks, wake_up_checks, cancel_checks, release_checks, suspend_checks, resume_checks, slept, delayed, woken, rebased, new_base, named, rotated_priority, shown, enabled_after, caller, sleep_object, delay_object}
 use Rattle.kernel_model.specs.Statements.{fetch, give, start_frame}
 use Rattle.kernel_model.specs.State.{State, frame_of, with_frame, state_start}
 use Rattle.kernel_model.specs.Settle.{settle, follow_release, follow_each, with_releases, turned, dispatched, followed}
 use Rattle.kernel_model.specs.Calls.{base_call, answered, noted, begun, called, with_start}
 use Rattle.kernel_model.specs.Ticks.{fallen, due_done, limit_answer, tick}
-use Rattle.kernel_model.specs.Step.{acted, ran, is_paced, paced, has_tick, ran_or_idle, done_if, done_at, worked, counted, end_after, is_quiet, stepped_if, step}
+use Rattle.kernel_model.specs.Step.{acted, ran, is_paced, paced, has_tick, ran_or_idle, done_if, done_at, worked, counted, is_quiet, stepped_if, step}
 use Rattle.kernel_model.specs.Trace.{start}
 use Rattle.kernel_model.specs.Queues.{AreOfOrder, queue_in}
 use Rattle.kernel_model.proofs.Counts.{if_cases, checked_cases, state_if}

@@ -1,10 +1,13 @@
 -- What a machine keeps between its calls, at the start and after a step.
-use Rattle.std.proofs.Common.{◌≡◌, ℕ, ◌<◌, ◌≤◌, Bool, false, Option, Some, None, refl, sym, ◌∙◌, subst, ap, arith}
+use Rattle.std.proofs.Common.{◌≡◌, ℕ, ◌<◌, ◌≤◌, Bool, false, Option, Some, None, refl, sym, ◌∙◌, subst, ap, arith, List, pos}
+use Rattle.std.specs.Prelude.{replicate, slice_set}
 use Rattle.tk_types.specs.declared.script.Script.{Script}
 use Rattle.tk_types.specs.declared.run.End.{End}
 use Rattle.kernel_model.specs.Counts.{IsCounted}
-use Rattle.kernel_model.specs.State.{State, state_start}
-use Rattle.kernel_model.specs.Statements.{IsRunnable}
+use Rattle.tk_types.specs.declared.run.Frame.{Frame}
+use Rattle.kernel_model.specs.Base.{Base, base_start}
+use Rattle.kernel_model.specs.State.{State, no_frame, state_start}
+use Rattle.kernel_model.specs.Statements.{IsRunnable, memory_size, start_frame}
 use Rattle.kernel_model.specs.Settle.{dispatched}
 use Rattle.kernel_model.specs.Step.{step}
 use Rattle.kernel_model.specs.Trace.{start}
@@ -13,6 +16,20 @@ use Rattle.kernel_model.specs.Queues.{AreOfOrder}
 use Rattle.kernel_model.proofs.WaitOrders.{start_in_order, step_in_order}
 use Rattle.kernel_model.proofs.Counts.{start_counted, start_unstepped, step_counted, step_left}
 use Rattle.tk_kernel.specs.Budgets.{IsGoing}
+
+-- the parts of the start are the start
+pub started : (script : Script) (inside base : Base) (bodies : List ℕ) (frames : List Frame) (frame : Frame) (memory : List ℕ) → inside ≡ base → base ≡ base_start script.boot.priority → bodies ≡ replicate 256 0 → frames ≡ replicate 256 no_frame →
+    frame ≡ start_frame script.boot.body (pos 0) (pos 0) → memory ≡ replicate memory_size 0 →
+    record { base = inside; bodies = slice_set bodies 1 script.boot.body; frames = slice_set frames 1 frame; memory = memory; ticks = 0; halted = false; steps = 0 } ≡ state_start script
+unfolding state_start
+started script inside base bodies frames frame memory same start no_bodies no_frames first empty =
+    let with_parts : Base → List ℕ → List Frame → Frame → List ℕ → State =
+    λ b bs fs f m. record { base = b; bodies = slice_set bs 1 script.boot.body; frames = slice_set fs 1 f; memory = m; ticks = 0; halted = false; steps = 0 } in
+    ap (λ (b : Base). with_parts b bodies frames frame memory) (same ∙ start)
+    ∙ (ap (λ (bs : List ℕ). with_parts (base_start script.boot.priority) bs frames frame memory) no_bodies
+    ∙ (ap (λ (fs : List Frame). with_parts (base_start script.boot.priority) (replicate 256 0) fs frame memory) no_frames
+    ∙ (ap (λ (f : Frame). with_parts (base_start script.boot.priority) (replicate 256 0) (replicate 256 no_frame) f memory) first
+    ∙ ap (λ (m : List ℕ). with_parts (base_start script.boot.priority) (replicate 256 0) (replicate 256 no_frame) (start_frame script.boot.body (pos 0) (pos 0)) m) empty)))
 
 pub going_at_start : (script : Script) (budget : ℕ) (first state : State) → IsRunnable script → 1 ≤ budget → budget ≤ 1000000 → first ≡ state_start script → state ≡ (dispatched 0 first).state → IsGoing script budget state None false
 unfolding start

@@ -1,8 +1,4 @@
-use Rattle.std.proofs.Common.{Some, arith, rules, ap, ◌∙◌}
-use Rattle.kernel_model.specs.Base.{current_in}
-use Rattle.kernel_model.specs.Queues.{queue_in}
-use Rattle.kernel_model.proofs.ReadyLists.{entry_written, same_but_written}
-use Rattle.kernel_base.specs.Waiting.{phase_in}
+use Rattle.std.proofs.Common.{Some, arith, rules}
 use Rattle.kernel_base.proofs.Rooms.{slot_written}
 use Rattle.kernel_base.proofs.Queued.{queued_stopped}
 use Rattle.kernel_base.proofs.Waited.{waits_written}
