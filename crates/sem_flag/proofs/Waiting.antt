@@ -1,5 +1,5 @@
 -- A wait for an event flag whose checks all hold.
-use Rattle.std.proofs.Common.{◌≡◌, ℕ, Bool, true, false, cond, Option, Some, None, refl, ap, sym, ◌∙◌, ℤ, pos, negsuc}
+use Rattle.std.proofs.Common.{◌≡◌, ℕ, Bool, true, false, cond, Some, None, refl, ap, ◌∙◌, ℤ, pos, negsuc}
 use Rattle.std.specs.Prelude.{int_le}
 use Rattle.std.specs.Ordering.{int_eq}
 use Rattle.std.specs.Int.{w32, cast_unsigned}
@@ -13,7 +13,7 @@ use Rattle.kernel_model.specs.Base.{Base}
 use Rattle.kernel_model.specs.Marks.{allows}
 use Rattle.kernel_model.specs.TaskCalls.{caller}
 use Rattle.kernel_model.specs.SemFlags.{SemFlags, flag_at}
-use Rattle.kernel_model.specs.SemFlagCalls.{SemFlagDone, is_mode, may_join, refused_with, sem_flag_checked, wait_flag, wait_flag_checks, waited_for_flag}
+use Rattle.kernel_model.specs.SemFlagCalls.{is_mode, may_join, wait_flag, waited_for_flag}
 
 named_if : (test : Bool) (n at : ℕ) → cond test (Some n) None ≡ Some at → (test ≡ true) × (n ≡ at)
 named_if true n at is = (refl, cc is)

@@ -1,5 +1,5 @@
 -- The tables have a slot for each ID, and a place for each task.
-use Rattle.std.specs.Prelude.{ℕ, ◌≡◌, ◌≤◌, List, Option, length}
+use Rattle.std.specs.Prelude.{ℕ, ◌≡◌, List, Option, length}
 use Rattle.kernel_model.specs.declared.objects.Semaphore.{Semaphore}
 use Rattle.kernel_model.specs.declared.objects.EventFlag.{EventFlag}
 use Rattle.kernel_model.specs.declared.objects.FlagWish.{FlagWish}

@@ -10,6 +10,8 @@ mod sem_waits;
 mod semaphores;
 mod serving;
 mod table;
+#[cfg(test)]
+mod tests;
 
 pub use calls::call;
 pub use serving::serve;
