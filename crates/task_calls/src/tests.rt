@@ -1,6 +1,8 @@
 //! Each call once where it does its work, and once where it is refused, with answers taken from the table of calls.
 
 ghost use Rattle.std.specs.Prelude.{◌≤◌};
+ghost use Rattle.kernel_model.specs.Queues.{AreOfOrder};
+ghost use Rattle.tk_types.specs.declared.task.Order.TheVariants.{Fifo};
 
 use crate::call;
 use crate::sleeping::SLEEP;
@@ -23,8 +25,12 @@ enum Stage {
 fn set_stage(base: &mut Base, stage: Stage)
     requires few { base.old.made ≤ 0 }
     requires early { base.old.time ≤ 0 }
+    requires sleepers { AreOfOrder Fifo base.old 0 }
+    requires delayed { AreOfOrder Fifo base.old 1 }
     ensures few { base.new.made ≤ 1 }
     ensures early { base.new.time ≤ 0 }
+    ensures sleepers { AreOfOrder Fifo base.new 0 }
+    ensures delayed { AreOfOrder Fifo base.new 1 }
 {
     base.create(2, 10, 512);
     match stage {
