@@ -14,17 +14,31 @@ use Rattle.tk_types.specs.declared.line.Line.{Line}
 use Rattle.tk_types.specs.declared.line.Line.TheVariants as lines
 use Rattle.tk_types.specs.Calls.{name_of}
 use Rattle.kernel_model.specs.Checks.{natural, failed, within}
-use Rattle.kernel_model.specs.Base.{Base, delete}
+use Rattle.kernel_model.specs.Base.{delete}
 use Rattle.kernel_model.specs.TaskCalls.{TaskDone, task_call}
+use Rattle.kernel_model.specs.SemFlagCalls.{SemFlagDone, sem_flag_call}
 use Rattle.kernel_model.specs.Statements.{give, start_frame}
 use Rattle.kernel_model.specs.State.{State, frame_of, with_frame}
 use Rattle.kernel_model.specs.Settle.{Event}
 
--- a call of a family
-unfoldable pub base_call : Base → ℕ → Call → TaskDone
-base_call b t (calls.Task call) = task_call b (whos.Task t) call
+-- a state, and what became of a call
+pub record CallDone : Type 0 where
+  pub state : State
+  pub outcome : Outcome
+
+-- a call that changes the base, and one that changes semaphores and flags with it
+abbrev pub after_task_call : State → TaskDone → CallDone
+after_task_call st done = record { state = record st { base = done.base }; outcome = done.outcome }
+
+abbrev pub after_sem_flag_call : State → SemFlagDone → CallDone
+after_sem_flag_call st done = record { state = record st { base = done.base; sem_flags = done.table }; outcome = done.outcome }
+
+-- a call of a family, by its row
+unfoldable pub family_call : State → ℕ → Call → CallDone
+family_call st t (calls.Task call) = after_task_call st (task_call st.base (whos.Task t) call)
+family_call st t (calls.SemFlag call) = after_sem_flag_call st (sem_flag_call st.base st.sem_flags (whos.Task t) call)
 -- the other families aren't built yet: a script that has one is refused before it runs
-base_call b t _ = record { base = b; outcome = failed er.NoSpt }
+family_call st t _ = record { state = st; outcome = failed er.NoSpt }
 
 -- a created task gets its body; an error is no task
 abbrev pub with_body : State → ℤ → ℕ → State
@@ -59,9 +73,9 @@ call_lines n t name (Returned result) = lines.Returned n t name result ∷ []
 call_lines n t name Blocked = lines.Blocked n t name ∷ []
 call_lines n t name (Entered body) = []
 
-abbrev pub after_call : ℕ → State → ℕ → Call → TaskDone → Event
-after_call n st t call result = record { state = answered (record st { base = result.base }) t call result.outcome; lines = call_lines n t (name_of call) result.outcome }
+abbrev pub after_call : ℕ → ℕ → Call → CallDone → Event
+after_call n t call result = record { state = answered result.state t call result.outcome; lines = call_lines n t (name_of call) result.outcome }
 
 -- a task makes a call
 unfoldable pub called : ℕ → State → ℕ → Call → Event
-called n st t call = after_call n st t call (base_call st.base t call)
+called n st t call = after_call n t call (family_call st t call)

@@ -1,5 +1,6 @@
 -- What follows each event: settling, the lines of the waits that ended, and the dispatch.
-use Rattle.std.specs.Prelude.{ℕ, Bool, true, false, List, [], ◌∷◌, ◌++◌, Option, Some, None}
+use Rattle.std.specs.Prelude.{ℕ, zero, suc, Bool, true, false, List, [], ◌∷◌, ◌++◌, Option, Some, None}
+use Rattle.std.specs.Option.{option_map}
 use Rattle.tk_types.specs.declared.script.Script.{Script}
 use Rattle.tk_types.specs.declared.call_name.CallName.{CallName}
 use Rattle.tk_types.specs.declared.task.Release.{Release}
@@ -7,6 +8,7 @@ use Rattle.tk_types.specs.declared.line.Line.{Line}
 use Rattle.tk_types.specs.declared.line.Line.TheVariants as lines
 use Rattle.kernel_model.specs.Base.{chosen, dispatch}
 use Rattle.kernel_model.specs.Priority.{resettle}
+use Rattle.kernel_model.specs.SemFlags.{serve_sem_flag}
 use Rattle.kernel_model.specs.Statements.{call_before, give}
 use Rattle.kernel_model.specs.State.{State, frame_of, with_frame}
 use Rattle.kernel_model.specs.Views.{is_current}
@@ -20,9 +22,27 @@ pub record Event : Type 0 where
 abbrev pub behind : List Line → Event → Event
 behind front event = record event { lines = front ++ event.lines }
 
--- settling: changed priorities are taken over. No object has a waiter to serve yet
-abbrev pub settle : State → State
-settle st = record st { base = resettle st.base }
+-- changed priorities are taken over
+abbrev pub refreshed : State → State
+refreshed st = record st { base = resettle st.base }
+
+-- the first object by kind and ID that can serve a waiter serves one
+abbrev pub serve_first : State → Option State
+serve_first st = option_map (λ parts. record st { base = parts.base; sem_flags = parts.table }) (serve_sem_flag st.base st.sem_flags)
+
+-- waiters are served one after another, at most so many, and after each one changed priorities are taken over
+unfoldable pub served_within : ℕ → State → State
+served_within zero st = st
+served_within (suc left) st =
+    elim (serve_first st) as (λ _. State) [
+      | None ↦ st
+      | Some served ↦ served_within left (refreshed served)
+    ]
+
+-- settling: changed priorities are taken over, and waiters are served until none can be. Each serving ends a wait, and no
+-- more tasks wait than have a slot; so this many servings are enough, which is the law `settling_serves_until_none_can_be`
+unfoldable pub settle : State → State
+settle st = served_within 256 (refreshed st)
 
 -- the line of a wait that ended
 abbrev pub release_line : ℕ → Release → Option CallName → List Line
