@@ -22,3 +22,4 @@ pub mod Lasting
 pub mod Picks
 pub mod Serving
 pub mod Trial
+pub mod Served

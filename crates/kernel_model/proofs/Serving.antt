@@ -62,19 +62,23 @@ waits_row : (object : ℕ) (o : Option Task) → waiting_in object o ≡ true �
 waits_row object None waits = absurd (cc waits)
 waits_row object (Some k) waits = waits_phase object k.phase waits
 
-waits_if : (b : Base) (t object : ℕ) (test : Bool) → waits_for b object t ≡ test → (waits_for b object t ≡ false → ⊥) → is_waiting b t ≡ true
-waits_if b t object true is stands = waits_row object (task_at b t) is
+-- a task that waits for an object waits
+pub waits_for_waits : (b : Base) (t object : ℕ) → waits_for b object t ≡ true → is_waiting b t ≡ true
+waits_for_waits b t object waits = waits_row object (task_at b t) waits
+
+waits_if : (b : Base) (t object : ℕ) (test : Bool) → waits_for b object t ≡ test → (waits_for b object t ≡ false → ⊥) → waits_for b object t ≡ true
+waits_if b t object true is stands = is
 waits_if b t object false is stands = absurd (stands is)
 
--- a task that stands in the queue of an object waits
-stands_waiting : (b : Base) (t object : ℕ) → (waits_for b object t ≡ false → ⊥) → is_waiting b t ≡ true
+-- a task that stands in the queue of an object waits for it
+stands_waiting : (b : Base) (t object : ℕ) → (waits_for b object t ≡ false → ⊥) → waits_for b object t ≡ true
 stands_waiting b t object stands = waits_if b t object (waits_for b object t) refl stands
 
-sem_served_waits : (b : Base) (s : SemFlags) (id : ℕ) (k : Semaphore) (t : ℕ) → sem_served s k b id ≡ Some t → is_waiting b t ≡ true
+pub sem_served_waits : (b : Base) (s : SemFlags) (id : ℕ) (k : Semaphore) (t : ℕ) → sem_served s k b id ≡ Some t → waits_for b (sem_object id) t ≡ true
 sem_served_waits b s id k t served = stands_waiting b t (sem_object id)
     (λ idle. picked_stands k.any_place (is_there s k) t (queue k.order b (sem_object id)) (queue_absent k.order b t (sem_object id) idle) served)
 
-flag_served_waits : (b : Base) (s : SemFlags) (id : ℕ) (k : EventFlag) (t : ℕ) → flag_served s k b id ≡ Some t → is_waiting b t ≡ true
+pub flag_served_waits : (b : Base) (s : SemFlags) (id : ℕ) (k : EventFlag) (t : ℕ) → flag_served s k b id ≡ Some t → waits_for b (flag_object id) t ≡ true
 flag_served_waits b s id k t served = stands_waiting b t (flag_object id)
     (λ idle. found_stands (is_fulfilled s k) t (queue k.order b (flag_object id)) (queue_absent k.order b t (flag_object id) idle) served)
 
@@ -87,7 +91,7 @@ ends_one b t result left parts released served waits =
 
 sem_ends_of : (b : Base) (s : SemFlags) (id : ℕ) (k : Semaphore) (parts : SemFlagParts) (o : Option ℕ) → sem_served s k b id ≡ o → serve_sem_of b s id k o ≡ Some parts → waiting_count b ≡ waiting_count parts.base + 1
 sem_ends_of b s id k parts None picked served = absurd (cc served)
-sem_ends_of b s id k parts (Some t) picked served = ends_one b t _ _ parts refl served (sem_served_waits b s id k t picked)
+sem_ends_of b s id k parts (Some t) picked served = ends_one b t _ _ parts refl served (waits_for_waits b t (sem_object id) (sem_served_waits b s id k t picked))
 
 sem_ends_at : (b : Base) (s : SemFlags) (id : ℕ) (parts : SemFlagParts) (slot : Option Semaphore) → serve_sem_at b s id slot ≡ Some parts → waiting_count b ≡ waiting_count parts.base + 1
 sem_ends_at b s id parts None served = absurd (cc served)
@@ -100,7 +104,7 @@ sem_ends_one b s id parts served = sem_ends_at b s id parts (sem_at s id) served
 
 flag_ends_of : (b : Base) (s : SemFlags) (id : ℕ) (k : EventFlag) (parts : SemFlagParts) (o : Option ℕ) → flag_served s k b id ≡ o → serve_flag_of b s id k o ≡ Some parts → waiting_count b ≡ waiting_count parts.base + 1
 flag_ends_of b s id k parts None picked served = absurd (cc served)
-flag_ends_of b s id k parts (Some t) picked served = ends_one b t _ _ parts refl served (flag_served_waits b s id k t picked)
+flag_ends_of b s id k parts (Some t) picked served = ends_one b t _ _ parts refl served (waits_for_waits b t (flag_object id) (flag_served_waits b s id k t picked))
 
 flag_ends_at : (b : Base) (s : SemFlags) (id : ℕ) (parts : SemFlagParts) (slot : Option EventFlag) → serve_flag_at b s id slot ≡ Some parts → waiting_count b ≡ waiting_count parts.base + 1
 flag_ends_at b s id parts None served = absurd (cc served)

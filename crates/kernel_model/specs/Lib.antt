@@ -14,6 +14,7 @@ pub mod Waiters
 pub mod SemFlags
 pub mod SemFlagCalls
 pub mod Trial
+pub mod Waits
 pub mod Queues
 pub mod Statements
 pub mod State
