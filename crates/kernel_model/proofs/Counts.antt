@@ -1,5 +1,5 @@
 -- A step makes one event at most, and one tick at most passes or becomes pending at it.
-use Rattle.std.proofs.Common.{◌≡◌, ℕ, suc, zero, ◌+◌, ◌-◌, ◌≤◌, ◌<◌, Bool, true, false, cond, List, [], ◌∷◌, Option, Some, None, refl, arith, ℤ, pos, negsuc}
+use Rattle.std.proofs.Common.{◌≡◌, ℕ, suc, zero, ◌+◌, ◌-◌, ◌≤◌, ◌<◌, Bool, true, false, cond, List, [], ◌∷◌, Option, Some, None, refl, ap, sym, subst, arith, ℤ, pos, negsuc}
 use Rattle.std.specs.Bool.{◌==◌}
 use Rattle.std.specs.Prelude.{fold, drop, length, unwrap_or, slice_set, slice_index}
 use Rattle.std.specs.Ordering.{int_eq}
@@ -12,6 +12,7 @@ use Rattle.tk_types.specs.declared.task.Release.{Release}
 use Rattle.tk_types.specs.declared.task.Event.{Event as DueKind}
 use Rattle.tk_types.specs.declared.task.Event.TheVariants as kinds
 use Rattle.tk_types.specs.declared.answer.Who.{Who}
+use Rattle.tk_types.specs.declared.answer.Who.TheVariants as whos
 use Rattle.tk_types.specs.declared.answer.Answer.{Answer}
 use Rattle.tk_types.specs.declared.answer.Outcome.{Outcome}
 use Rattle.tk_types.specs.declared.answer.Outcome.TheVariants as outcomes
@@ -28,18 +29,28 @@ use Rattle.kernel_model.specs.Views.{is_current}
 use Rattle.tk_types.specs.Codes.{code_of}
 use Rattle.tk_types.specs.declared.error_code.Er.TheVariants as er
 use Rattle.tk_types.specs.declared.task.Phase.TheVariants.{Dormant, Ready, Waiting}
-use Rattle.kernel_model.specs.Base.{Base, task_at, with_entry, with_task, limited, current, chosen, free_task, has_room, is_waiting_phase, back_unless_suspended, recorded, wakeups_of, waits_for, gone, drop_wait, take_due, advance, take_bytes, create, delete, make_ready, make_wait, make_dormant, release, suspend, resume, resumed, set_base, set_current, set_wakeups, rotate}
+use Rattle.kernel_model.specs.Base.{Base, queue, task_at, with_entry, with_task, limited, current, chosen, free_task, has_room, is_waiting_phase, back_unless_suspended, recorded, wakeups_of, waits_for, gone, drop_wait, take_due, advance, take_bytes, create, delete, make_ready, make_wait, make_dormant, release, suspend, resume, resumed, set_base, set_current, set_wakeups, rotate}
 use Rattle.kernel_model.specs.Events.{due_event}
 use Rattle.kernel_model.specs.Priority.{refresh, resettle, taken_from, current_of}
 use Rattle.kernel_model.specs.TaskCalls.{TaskDone, checked, unless_error, finished, task_call, create_task, delete_task, start_task, exit_task, terminate_task, change_priority, rotate_ready, get_task, refer_task, sleep, delay, wake_up, cancel_wakeups, release_wait, suspend_task, resume_task, create_checks, delete_checks, start_checks, terminate_checks, change_checks, named_checks, waiting_checks, wake_up_checks, cancel_checks, release_checks, suspend_checks, resume_checks, slept, delayed, woken, rebased, new_base, named, rotated_priority, shown, enabled_after, caller, sleep_object, delay_object}
 use Rattle.kernel_model.specs.Statements.{fetch, give, start_frame}
 use Rattle.kernel_model.specs.State.{State, frame_of, with_frame, state_start}
 use Rattle.kernel_model.specs.Settle.{settle, follow_release, follow_each, with_releases, turned, dispatched, followed}
-use Rattle.kernel_model.specs.Calls.{base_call, answered, noted, begun, called, with_start}
+use Rattle.kernel_model.specs.Calls.{family_call, answered, noted, begun, called, with_start}
 use Rattle.kernel_model.specs.Ticks.{fallen, due_done, limit_answer, tick}
 use Rattle.kernel_model.specs.Step.{acted, ran, is_paced, paced, has_tick, ran_or_idle, done_if, done_at, worked, counted, end_after, is_quiet, stepped_if, step}
 use Rattle.kernel_model.specs.Trace.{start}
 use Rattle.kernel_model.specs.Counts.{IsCounted}
+use Rattle.tk_types.specs.declared.calls.SemFlagCall.{SemFlagCall}
+use Rattle.tk_types.specs.declared.calls.SemFlagCall.TheVariants as rows
+use Rattle.kernel_model.specs.declared.objects.Semaphore.{Semaphore}
+use Rattle.kernel_model.specs.declared.objects.EventFlag.{EventFlag}
+use Rattle.kernel_model.specs.declared.objects.FlagWish.{FlagWish}
+use Rattle.kernel_model.specs.SemFlags.{SemFlags, sem_at, flag_at, sem_object, flag_object, has_bits}
+use Rattle.kernel_model.specs.SemFlagCalls
+use Rattle.kernel_model.specs.SemFlagCalls.{SemFlagDone, sem_flag_checked, sem_flag_call, create_sem, create_flag, delete_sem, delete_flag, signal_sem, set_flag, clear_flag, refer_sem, refer_flag, wait_sem, wait_flag, first_ended, end_first, sem_waits_ended, flag_waits_ended, serves_at_once, waits_or_ends, waited_for_sem, waited_for_flag}
+use Rattle.kernel_model.proofs.Checked.{family_cases}
+use Rattle.kernel_model.proofs.Served.{settle_keeps_base, settle_rest}
 
 -- ---- the base
 
@@ -177,21 +188,65 @@ call_few m t b who (call.DlyTsk time) few =
     checked_few m t (waiting_checks b who (pos 0) time) b (delayed b (caller who) time) few
     (done_few (m + 1) t (int_eq time (pos 0)) (finished b) (record { base = make_wait b (caller who) delay_object Fifo time; outcome = outcomes.Blocked }) (more m t b few) (wait_few m t b (caller who) delay_object Fifo time few))
 
-base_call_few : (m t : ℕ) (b : Base) (v : ℕ) (c : Call) → Few m t b → Few (m + 1) t (base_call b v c).base
-unfolding base_call
-base_call_few m t b v (calls.Task c) few = call_few m t b _ c few
-base_call_few m t b v _ few = more m t b few
+-- ---- the calls on semaphores and event flags
 
-refresh_few : (m t : ℕ) (b : Base) (v : ℕ) → Few m t b → Few m t (refresh b v)
-refresh_few m t b v few = if_cases (Few m t) (current b v == current_of b v) b (set_current b v (current_of b v)) few (set_current_few m t b v (current_of b v) few)
+-- at most so many events were made, and the time is at most that, after a call
+abbrev FewDone : ℕ → ℕ → SemFlagDone → Type 0
+FewDone m t done = Few m t done.base
 
-fold_few : (m t : ℕ) (b : Base) (ids : List ℕ) → Few m t b → Few m t (fold refresh b ids)
-fold_few m t b [] few = few
-fold_few m t b (v ∷ ids) few = fold_few m t (refresh b v) ids (refresh_few m t b v few)
+waits_few : (m t : ℕ) (over : Bool) (now waits : SemFlagDone) → FewDone m t now → FewDone m t waits → FewDone m t (cond over now waits)
+waits_few m t true now waits over on = over
+waits_few m t false now waits over on = on
 
-resettle_few : (m t : ℕ) (b : Base) → Few m t b → Few m t (resettle b)
-unfolding resettle
-resettle_few m t b few = fold_few m t b (taken_from 1 (drop 1 b.tasks)) few
+first_few : (m t : ℕ) (ids : List ℕ) (b : Base) → Few m t b → Few m t (first_ended ids b)
+first_few m t [] b few = few
+first_few m t (v ∷ ids) b few = release_few m t b v (plain (code_of er.Dlt)) few
+
+ended_few : (m t left : ℕ) (order : Order) (object : ℕ) (b : Base) → Few m t b → Few m t (end_first left order object b)
+unfolding end_first
+ended_few m t zero order object b few = few
+ended_few m t (suc left) order object b few = ended_few m t left order object (first_ended (queue order b object) b) (first_few m t (queue order b object) b few)
+
+sem_deleted_few : (m t : ℕ) (b : Base) (id : ℕ) (slot : Option Semaphore) → Few m t b → Few m t (sem_waits_ended b id slot)
+sem_deleted_few m t b id None few = few
+sem_deleted_few m t b id (Some k) few = ended_few m t (length (queue k.order b (sem_object id))) k.order (sem_object id) b few
+
+flag_deleted_few : (m t : ℕ) (b : Base) (id : ℕ) (slot : Option EventFlag) → Few m t b → Few m t (flag_waits_ended b id slot)
+flag_deleted_few m t b id None few = few
+flag_deleted_few m t b id (Some k) few = ended_few m t (length (queue k.order b (flag_object id))) k.order (flag_object id) b few
+
+waits_or_ends_few : (m t : ℕ) (b : Base) (s : SemFlags) (v object : ℕ) (order : Order) (timeout : ℤ) (asked : SemFlags) → Few m t b → FewDone (m + 1) t (waits_or_ends b s v object order timeout asked)
+waits_or_ends_few m t b s v object order timeout asked few =
+    waits_few (m + 1) t (int_eq timeout (pos 0)) (record { base = b; table = s; outcome = failed er.TmOut }) (record { base = make_wait b v object order timeout; table = asked; outcome = outcomes.Blocked })
+    (more m t b few) (wait_few m t b v object order timeout few)
+
+sem_waited_few : (m t : ℕ) (b : Base) (s : SemFlags) (v id n : ℕ) (timeout : ℤ) (slot : Option Semaphore) → Few m t b → FewDone (m + 1) t (waited_for_sem b s v id n timeout slot)
+sem_waited_few m t b s v id n timeout None few = more m t b few
+sem_waited_few m t b s v id n timeout (Some k) few =
+    waits_few (m + 1) t (serves_at_once b k id v n) _ _ (more m t b few) (waits_or_ends_few m t b s v (sem_object id) k.order timeout _ few)
+
+flag_waited_few : (m t : ℕ) (b : Base) (s : SemFlags) (v id : ℕ) (wish : FlagWish) (timeout : ℤ) (slot : Option EventFlag) → Few m t b → FewDone (m + 1) t (waited_for_flag b s v id wish timeout slot)
+flag_waited_few m t b s v id wish timeout None few = more m t b few
+flag_waited_few m t b s v id wish timeout (Some k) few =
+    waits_few (m + 1) t (has_bits k.pattern wish) _ _ (more m t b few) (waits_or_ends_few m t b s v (flag_object id) k.order timeout _ few)
+
+row_few : (m t : ℕ) (checks : List Check) (b : Base) (s : SemFlags) (effect : SemFlagDone) → Few m t b → FewDone (m + 1) t effect → FewDone (m + 1) t (sem_flag_checked checks b s effect)
+row_few m t checks b s effect few works = family_cases (FewDone (m + 1) t) checks b s effect (λ code. more m t b few) (λ none. works)
+
+-- a call makes one event at most, and no time passes
+sem_flag_few : (m t : ℕ) (b : Base) (s : SemFlags) (who : Who) (c : SemFlagCall) → Few m t b → FewDone (m + 1) t (sem_flag_call b s who c)
+unfolding sem_flag_call create_sem create_flag delete_sem delete_flag signal_sem set_flag clear_flag refer_sem refer_flag wait_sem wait_flag
+sem_flag_few m t b s who (rows.CreSem attributes count most) few = row_few m t (SemFlagCalls.create_sem_checks s attributes count most) b s _ few (more m t b few)
+sem_flag_few m t b s who (rows.SigSem id count) few = row_few m t (SemFlagCalls.signal_checks s id count) b s _ few (more m t b few)
+sem_flag_few m t b s who (rows.WaiSem id count timeout) few = row_few m t (SemFlagCalls.wait_sem_checks b s who id count timeout) b s _ few (sem_waited_few m t b s (caller who) (natural id) (natural count) timeout (sem_at s (natural id)) few)
+sem_flag_few m t b s who (rows.RefSem id) few = row_few m t (SemFlagCalls.object_checks id (SemFlagCalls.has_sem s id) []) b s _ few (more m t b few)
+sem_flag_few m t b s who (rows.CreFlg attributes pattern) few = row_few m t (SemFlagCalls.create_flag_checks s attributes) b s _ few (more m t b few)
+sem_flag_few m t b s who (rows.SetFlg id pattern) few = row_few m t (SemFlagCalls.object_checks id (SemFlagCalls.has_flag s id) []) b s _ few (more m t b few)
+sem_flag_few m t b s who (rows.ClrFlg id pattern) few = row_few m t (SemFlagCalls.object_checks id (SemFlagCalls.has_flag s id) []) b s _ few (more m t b few)
+sem_flag_few m t b s who (rows.WaiFlg id bits mode timeout) few = row_few m t (SemFlagCalls.wait_flag_checks b s who id bits mode timeout) b s _ few (flag_waited_few m t b s (caller who) (natural id) _ timeout (flag_at s (natural id)) few)
+sem_flag_few m t b s who (rows.RefFlg id) few = row_few m t (SemFlagCalls.object_checks id (SemFlagCalls.has_flag s id) []) b s _ few (more m t b few)
+sem_flag_few m t b s who (rows.DelSem id) few = row_few m t (SemFlagCalls.object_checks id (SemFlagCalls.has_sem s id) []) b s _ few (more m t (sem_waits_ended b (natural id) (sem_at s (natural id))) (sem_deleted_few m t b (natural id) (sem_at s (natural id)) few))
+sem_flag_few m t b s who (rows.DelFlg id) few = row_few m t (SemFlagCalls.object_checks id (SemFlagCalls.has_flag s id) []) b s _ few (more m t (flag_waits_ended b (natural id) (flag_at s (natural id))) (flag_deleted_few m t b (natural id) (flag_at s (natural id)) few))
 
 -- ---- the state
 
@@ -200,7 +255,10 @@ abbrev pub Within : ℕ → ℕ → ℕ → State → Type 0
 Within made time ticks st = Few made time st.base × (st.ticks ≤ ticks)
 
 settle_within : (m t k : ℕ) (st : State) → Within m t k st → Within m t k (settle st)
-settle_within m t k st is = (resettle_few m t st.base is.0, is.1)
+settle_within m t k st is = (
+  settle_keeps_base (Few m t) (λ b v changed few. set_current_few m t b v (current_of b v) few) (λ b v object answer above waits few. release_few m t b v answer few) st is.0,
+  subst (λ (ticks : ℕ). ticks ≤ k) (sym (ap (λ (st : State). st.ticks) (settle_rest st))) is.1,
+)
 
 follow_each_within : (m t k : ℕ) (script : Script) (n : ℕ) (st : State) (released : List Release) → Within m t k st → Within m t k (follow_each script n st released).state
 unfolding follow_each follow_release
@@ -239,9 +297,15 @@ unfolding answered
 answered_within m t k st v c (outcomes.Returned result) is = noted_within m t k (with_frame st v (give (frame_of st v) result)) v c result.value is
 answered_within m t k st v c _ is = is
 
+made_within : (m t k : ℕ) (st : State) (v : ℕ) (c : Call) → Within m t k st → Within (m + 1) t k (family_call st v c).state
+unfolding family_call
+made_within m t k st v (calls.Task c) is = (call_few m t st.base (whos.Task v) c is.0, is.1)
+made_within m t k st v (calls.SemFlag c) is = (sem_flag_few m t st.base st.sem_flags (whos.Task v) c is.0, is.1)
+made_within m t k st v _ is = (more m t st.base is.0, is.1)
+
 called_within : (m t k n : ℕ) (st : State) (v : ℕ) (c : Call) → Within m t k st → Within (m + 1) t k (called n st v c).state
 unfolding called
-called_within m t k n st v c is = answered_within (m + 1) t k (record st { base = (base_call st.base v c).base }) v c (base_call st.base v c).outcome (base_call_few m t st.base v c is.0, is.1)
+called_within m t k n st v c is = answered_within (m + 1) t k (family_call st v c).state v c (family_call st v c).outcome (made_within m t k st v c is)
 
 more_within : (m t k : ℕ) (st : State) → Within m t k st → Within (m + 1) t k st
 more_within m t k st is = (more m t st.base is.0, is.1)

@@ -3,6 +3,8 @@ pub mod Precedence
 pub mod Once
 pub mod Counts
 pub mod WaitOrders
+pub mod FamilyOrders
+pub mod StepOrders
 pub mod Sorting
 pub mod ReadyLists
 pub mod Tables
