@@ -6,6 +6,7 @@ ghost use Rattle.tk_types.specs.declared.answer.Answer.{Answer};
 ghost use Rattle.tk_types.specs.declared.answer.Outcome.TheVariants.{Returned};
 ghost use Rattle.tk_types.specs.declared.answer.Who.{Who};
 ghost use Rattle.tk_types.specs.declared.answer.Who.TheVariants as whos;
+ghost use Rattle.tk_types.specs.declared.calls.SemFlagCall.{SemFlagCall};
 ghost use Rattle.tk_types.specs.declared.calls.TaskCall.{TaskCall};
 ghost use Rattle.tk_types.specs.declared.error_code.Er.TheVariants as er;
 ghost use Rattle.tk_types.specs.declared.task.DueEvent.{DueEvent};
@@ -24,7 +25,7 @@ ghost use Rattle.kernel_model.specs.Orders.{without};
 ghost use Rattle.kernel_model.specs.Precedence.{KeepsPlace, NoneReady, Precedes, StandsLast, gives_place_away};
 ghost use Rattle.kernel_model.specs.Priority.{current_of};
 ghost use Rattle.kernel_model.specs.Rising.{IsRisingBy};
-ghost use Rattle.kernel_model.specs.SemFlagCalls.{serves_at_once, waited_for_flag, waited_for_sem};
+ghost use Rattle.kernel_model.specs.SemFlagCalls.{sem_flag_call, serves_at_once, waited_for_flag, waited_for_sem};
 ghost use Rattle.kernel_model.specs.SemFlags.{SemFlagParts, SemFlags, flag_at, has_bits, sem_at, serve_flag, serve_sem};
 ghost use Rattle.kernel_model.specs.Settle.{settle};
 ghost use Rattle.kernel_model.specs.State.{State};
@@ -51,15 +52,18 @@ pub fn the_ready_list_is_in_order()
 {}
 
 /// A task that is preempted keeps its place: a task that makes a call and stays ready, with the priority that it
-/// has, stays the first of its equals, unless the call gives its place away by what it means. Neither a dispatch
-/// to another task, nor the end of another one's wait, nor settling, whatever becomes of others' priorities and whoever
-/// is served, nor a whole tick changes that.
+/// has, stays the first of its equals, unless the call gives its place away by what it means, which none on semaphores
+/// and event flags does. Neither a dispatch to another task, nor the end of another one's wait, nor settling, whatever
+/// becomes of others' priorities and whoever is served, nor a whole tick changes that.
 pub fn preempted_task_keeps_its_place()
     ensures call { (b : Base) (t : ℕ) (call : TaskCall) → KeepsPlace b t → is_ready b t ≡ true →
         gives_place_away t call ≡ false →
         is_ready (task_call b (whos.Task t) call).base t ≡ true →
         current (task_call b (whos.Task t) call).base t ≡ current b t →
         KeepsPlace (task_call b (whos.Task t) call).base t }
+    ensures family { (b : Base) (s : SemFlags) (t : ℕ) (call : SemFlagCall) → KeepsPlace b t → is_ready b t ≡ true →
+        is_ready (sem_flag_call b s (whos.Task t) call).base t ≡ true →
+        KeepsPlace (sem_flag_call b s (whos.Task t) call).base t }
     ensures dispatch { (b : Base) (t : ℕ) → KeepsPlace b t → KeepsPlace (dispatch b) t }
     ensures wait_ends { (b : Base) (t u : ℕ) (result : Answer) → KeepsPlace b t → is_ready b t ≡ true →
         KeepsPlace (release b u result) t }
@@ -132,11 +136,13 @@ pub fn events_fall_due_in_order()
     ensures tick { (st : State) → AreInTimeOrder st.base.events → AreLater (st.base.time + 1) (tick_state st).base.events }
 {}
 
-/// A call on tasks that is refused changes nothing: where a call answers a negative value, which is an error, all that
-/// the kernel keeps is as it was.
+/// A call on tasks, or on semaphores and event flags, that is refused changes nothing: where a call answers a negative
+/// value, which is an error, all that the kernel keeps is as it was.
 pub fn a_call_that_is_refused_changes_nothing()
-    ensures { (b : Base) (who : Who) (call : TaskCall) (answer : Answer) → (task_call b who call).outcome ≡ Returned answer →
+    ensures tasks { (b : Base) (who : Who) (call : TaskCall) (answer : Answer) → (task_call b who call).outcome ≡ Returned answer →
         is_negative answer.value ≡ true → (task_call b who call).base ≡ b }
+    ensures sem_flags { (b : Base) (s : SemFlags) (who : Who) (call : SemFlagCall) (answer : Answer) → (sem_flag_call b s who call).outcome ≡ Returned answer →
+        is_negative answer.value ≡ true → ((sem_flag_call b s who call).base ≡ b) × ((sem_flag_call b s who call).table ≡ s) }
 {}
 
 /// A release ends one wait: it leaves every other task's row as it was, the task no longer waits, one task fewer waits
