@@ -2,12 +2,11 @@
 use Rattle.std.proofs.Common.{◌≡◌, ℕ, suc, zero, Bool, true, false, List, [], ◌∷◌, Option, Some, None, refl, cond}
 use Rattle.std.specs.Prelude.{slice_get}
 use Rattle.tk_types.specs.declared.error_code.Er.{Er}
-use Rattle.kernel_model.specs.Checks.{Check, first_error}
+use Rattle.kernel_model.specs.Checks.{Check, first_error, failed}
 use Rattle.kernel_model.specs.Base.{Base}
+use Rattle.kernel_model.specs.TaskCalls.{TaskDone, unless_error, checked}
 use Rattle.kernel_model.specs.SemFlags.{SemFlags}
 use Rattle.kernel_model.specs.SemFlagCalls.{SemFlagDone, refused_with, sem_flag_checked}
-use Rattle.kernel_model.specs.TaskCalls.{TaskDone, unless_error, checked}
-use Rattle.kernel_model.specs.Checks.{failed}
 
 unless_cases : (P : TaskDone → Type 0) (error : Option Er) (b : Base) (effect : TaskDone) → ((code : Er) → P (record { base = b; outcome = failed code })) → (error ≡ None → P effect) → P (unless_error error b effect)
 unless_cases P (Some error) b effect refused works = refused error
@@ -21,9 +20,9 @@ refused_cases : (P : SemFlagDone → Type 0) (error : Option Er) (b : Base) (s :
 refused_cases P (Some error) b s effect refused works = refused error
 refused_cases P None b s effect refused works = works refl
 
--- a call is refused with some error and leaves base and table, or passes its checks
-pub family_cases : (P : SemFlagDone → Type 0) (checks : List Check) (b : Base) (s : SemFlags) (effect : SemFlagDone) → ((code : Er) → P (record { base = b; table = s; outcome = failed code })) → (first_error checks ≡ None → P effect) → P (sem_flag_checked checks b s effect)
-family_cases P checks b s effect refused works = refused_cases P (first_error checks) b s effect refused works
+-- the same of a call on semaphores and event flags, which leaves their tables too
+pub sem_flag_cases : (P : SemFlagDone → Type 0) (checks : List Check) (b : Base) (s : SemFlags) (effect : SemFlagDone) → ((code : Er) → P (record { base = b; table = s; outcome = failed code })) → (first_error checks ≡ None → P effect) → P (sem_flag_checked checks b s effect)
+sem_flag_cases P checks b s effect refused works = refused_cases P (first_error checks) b s effect refused works
 
 abbrev pub holds_in : Option Check → Bool
 holds_in None = true

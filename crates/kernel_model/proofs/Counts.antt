@@ -49,7 +49,7 @@ use Rattle.kernel_model.specs.declared.objects.FlagWish.{FlagWish}
 use Rattle.kernel_model.specs.SemFlags.{SemFlags, sem_at, flag_at, sem_object, flag_object, has_bits}
 use Rattle.kernel_model.specs.SemFlagCalls
 use Rattle.kernel_model.specs.SemFlagCalls.{SemFlagDone, sem_flag_checked, sem_flag_call, create_sem, create_flag, delete_sem, delete_flag, signal_sem, set_flag, clear_flag, refer_sem, refer_flag, wait_sem, wait_flag, first_ended, end_first, sem_waits_ended, flag_waits_ended, serves_at_once, waits_or_ends, waited_for_sem, waited_for_flag}
-use Rattle.kernel_model.proofs.Checked.{family_cases}
+use Rattle.kernel_model.proofs.Checked.{sem_flag_cases}
 use Rattle.kernel_model.proofs.Served.{settle_keeps_base, settle_rest}
 
 -- ---- the base
@@ -231,7 +231,7 @@ flag_waited_few m t b s v id wish timeout (Some k) few =
     waits_few (m + 1) t (has_bits k.pattern wish) _ _ (more m t b few) (waits_or_ends_few m t b s v (flag_object id) k.order timeout _ few)
 
 row_few : (m t : ℕ) (checks : List Check) (b : Base) (s : SemFlags) (effect : SemFlagDone) → Few m t b → FewDone (m + 1) t effect → FewDone (m + 1) t (sem_flag_checked checks b s effect)
-row_few m t checks b s effect few works = family_cases (FewDone (m + 1) t) checks b s effect (λ code. more m t b few) (λ none. works)
+row_few m t checks b s effect few works = sem_flag_cases (FewDone (m + 1) t) checks b s effect (λ code. more m t b few) (λ none. works)
 
 -- a call makes one event at most, and no time passes
 sem_flag_few : (m t : ℕ) (b : Base) (s : SemFlags) (who : Who) (c : SemFlagCall) → Few m t b → FewDone (m + 1) t (sem_flag_call b s who c)

@@ -33,7 +33,7 @@ use Rattle.kernel_model.specs.SemFlags.{SemFlags, sem_at, flag_at, sem_object, f
 use Rattle.kernel_model.specs.SemFlagCalls
 use Rattle.kernel_model.specs.SemFlagCalls.{SemFlagDone, refused_with, sem_flag_checked, sem_flag_call, create_sem, create_flag, delete_sem, delete_flag, signal_sem, set_flag, clear_flag, refer_sem, refer_flag, wait_sem, wait_flag, free_sem, free_flag, first_ended, end_first, end_waits, sem_waits_ended, flag_waits_ended, signalled, repatterned, serves_at_once, waits_or_ends, waited_for_sem, waited_for_flag}
 use Rattle.kernel_model.specs.Waits.{FitsPhase, FitsRow, HavePlaces, order_for}
-use Rattle.kernel_model.proofs.Checked.{family_cases, holds_at}
+use Rattle.kernel_model.proofs.Checked.{sem_flag_cases, holds_at}
 use Rattle.kernel_model.proofs.Once.{times_append, times_without}
 use Rattle.kernel_model.proofs.Queues.{queue_release}
 use Rattle.kernel_model.proofs.ReadyLists.{times_filter_is}
@@ -362,7 +362,7 @@ flag_changed b s id change None at all = all
 flag_changed b s id change (Some k) at all = right_same (order_for s) (order_for (repatterned s id change (Some k))) b (flag_orders s id k _ at refl) all
 
 checked_right : (checks : List Check) (b : Base) (s : SemFlags) (effect : SemFlagDone) → AreRight (order_for s) b → (first_error checks ≡ None → DoneRight effect) → DoneRight (sem_flag_checked checks b s effect)
-checked_right checks b s effect all works = family_cases DoneRight checks b s effect (λ code. all) works
+checked_right checks b s effect all works = sem_flag_cases DoneRight checks b s effect (λ code. all) works
 
 -- every call
 pub family_fits : (b : Base) (s : SemFlags) (who : Who) (c : SemFlagCall) → HavePlaces b → AreRight (order_for s) b → DoneRight (sem_flag_call b s who c)

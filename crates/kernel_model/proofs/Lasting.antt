@@ -10,14 +10,15 @@ use Rattle.tk_types.specs.declared.task.Order.{Order}
 use Rattle.tk_types.specs.declared.task.Phase.TheVariants.{Waiting}
 use Rattle.tk_types.specs.declared.task.DueEvent.{DueEvent}
 use Rattle.kernel_model.specs.Events.{limit_of, insert_event, without_wait, is_due}
-use Rattle.kernel_model.specs.Base.{Base, task_at, is_waiting, is_waiting_phase, waits_somewhere, make_wait, release, set_current, take_due}
+use Rattle.kernel_model.specs.Base.{Base, task_at, is_waiting, is_waiting_phase, waits_for, waiting_in, make_wait, release, set_current, take_due}
 use Rattle.kernel_model.specs.State.{State}
 use Rattle.kernel_model.specs.Ticks.{limit_answer, tick_state}
 use Rattle.kernel_model.specs.TimeOrder.{AreInTimeOrder, ComesAfter, after_ticks}
-use Rattle.kernel_model.proofs.Tables.{entry_at, entry_cases, entry_there}
+use Rattle.kernel_model.proofs.Tables.{itself, entry_at, entry_cases, entry_there}
 use Rattle.kernel_model.proofs.TimeOuts.{limit_set}
+use Rattle.kernel_model.proofs.Serving.{waits_for_waits}
 use Rattle.kernel_model.proofs.Ticks.{pairs_head, pairs_tail}
-use Rattle.kernel_model.proofs.TickEnds.{IsSet, Step, after_tick, done_keeps, fallen_keeps, tick_ends}
+use Rattle.kernel_model.proofs.TickEnds.{IsSetOrOver, Step, done_keeps, fallen_keeps, tick_leaves_set, tick_leaves_waiting, tick_or_over, tick_over, tick_time}
 
 -- ---- what is set stays in the order of time
 
@@ -68,7 +69,7 @@ order_release b t result order = entry_cases InOrder (task_at b t) b _ order (λ
 order_step : Step InOrder
 order_step st what is order =
     let left : InOrder (take_due st.base) = order_left_if st.base.events (is_due st.base.time st.base.events) order in
-    fallen_keeps InOrder (λ b u changed. order_set b u _) st what (λ none. left) (λ u named. order_release (take_due st.base) u (limit_answer (take_due st.base) u) left)
+    fallen_keeps InOrder (λ b u changed. order_set b u _) (λ b u object result above waits. order_release b u result) st what (λ none. left) (λ u named. order_release (take_due st.base) u (limit_answer (take_due st.base) u) left)
 
 -- a tick leaves what is set in order
 pub order_ticked : (st : State) → AreInTimeOrder st.base.events → AreInTimeOrder (tick_state st).base.events
@@ -83,37 +84,54 @@ order_waits b t object order n set = entry_cases InOrder (task_at b t) b _ set (
 
 -- ---- a wait through the ticks
 
-waits_now : (b : Base) (t object : ℕ) (order : Order) (n : ℕ) (k : Task) → task_at b t ≡ Some k → IsSet b.time t (Some (b.time + n + 1)) true (make_wait b t object order (pos n))
+-- the time is this one, the wait's end is set for that one, and the task waits for that object
+record WaitsOn (now t object due : ℕ) (b : Base) : Type 0 where
+  at : b.time ≡ now
+  limit : limit_of t b.events ≡ Some due
+  still : waits_for b object t ≡ true
+
+waits_now : (b : Base) (t object : ℕ) (order : Order) (n : ℕ) (k : Task) → task_at b t ≡ Some k → WaitsOn b.time t object (b.time + n + 1) (make_wait b t object order (pos n))
 waits_now b t object order n k at = record {
   at = entry_at (λ c. c.time ≡ b.time) (task_at b t) k b _ at refl;
   limit = limit_set b t object order n k at;
-  still = entry_at (λ c. is_waiting c t ≡ true) (task_at b t) k b _ at (ap waits_somewhere (entry_there b.tasks t k (Some (record k { phase = Waiting object; queue = order })) at));
+  still = entry_at (λ c. waits_for c object t ≡ true) (task_at b t) k b _ at
+      (ap (waiting_in object) (entry_there b.tasks t k (Some (record k { phase = Waiting object; queue = order })) at) ∙ itself object);
 }
 
-set_after : (st : State) (t now due passed : ℕ) → now + passed < due → IsSet now t (Some due) true st.base → IsSet (now + passed) t (Some due) true (after_ticks passed st).base
-set_after st t now due zero early set = record { at = set.at ∙ omega arith; limit = set.limit; still = set.still }
-set_after st t now due (suc passed) early set =
-    let before : IsSet (now + passed) t (Some due) true (after_ticks passed st).base = set_after st t now due passed (omega arith) set in
+waits_after : (st : State) (t object now due passed : ℕ) → object < 64 → now + passed < due → WaitsOn now t object due st.base → WaitsOn (now + passed) t object due (after_ticks passed st).base
+waits_after st t object now due zero below early waits = record { at = waits.at ∙ omega arith; limit = waits.limit; still = waits.still }
+waits_after st t object now due (suc passed) below early waits =
+    let before : WaitsOn (now + passed) t object due (after_ticks passed st).base = waits_after st t object now due passed below (omega arith) waits in
     let time : (after_ticks passed st).base.time ≡ now + passed = before.at in
     let comes : ComesAfter ((after_ticks passed st).base.time + 1) (limit_of t (after_ticks passed st).base.events) = subst (λ (limit : Option ℕ). ComesAfter ((after_ticks passed st).base.time + 1) limit) (sym before.limit) (omega arith) in
-    let later = after_tick (after_ticks passed st) t comes in
-    record { at = later.at ∙ omega arith; limit = later.limit ∙ before.limit; still = later.still ∙ before.still }
+    record {
+      at = tick_time (after_ticks passed st) ∙ omega arith;
+      limit = tick_leaves_set (after_ticks passed st) t object before.still below comes ∙ before.limit;
+      still = tick_leaves_waiting (after_ticks passed st) t object before.still below comes;
+    }
 
-begun : (st : State) (t object : ℕ) (order : Order) (n passed : ℕ) (k : Task) → task_at st.base t ≡ Some k → passed ≤ n →
-    IsSet (st.base.time + passed) t (Some (st.base.time + n + 1)) true (after_ticks passed (record st { base = make_wait st.base t object order (pos n) })).base
-begun st t object order n passed k at within =
-    set_after (record st { base = make_wait st.base t object order (pos n) }) t st.base.time (st.base.time + n + 1) passed (omega arith) (waits_now st.base t object order n k at)
-
--- through the ticks of its limit a task waits on
-pub wait_lasts : (st : State) (t object : ℕ) (order : Order) (n passed : ℕ) (k : Task) → task_at st.base t ≡ Some k → passed ≤ n →
+-- through the ticks of its limit a task waits on that nothing serves
+pub wait_lasts : (st : State) (t object : ℕ) (order : Order) (n passed : ℕ) (k : Task) → task_at st.base t ≡ Some k → object < 64 → passed ≤ n →
     is_waiting (after_ticks passed (record st { base = make_wait st.base t object order (pos n) })).base t ≡ true
-wait_lasts st t object order n passed k at within = (begun st t object order n passed k at within).still
+wait_lasts st t object order n passed k at below within =
+    waits_for_waits (after_ticks passed (record st { base = make_wait st.base t object order (pos n) })).base t object
+    (waits_after (record st { base = make_wait st.base t object order (pos n) }) t object st.base.time (st.base.time + n + 1) passed below (omega arith) (waits_now st.base t object order n k at)).still
 
--- with one more its wait is over
+time_after : (st : State) (passed : ℕ) → (after_ticks passed st).base.time ≡ st.base.time + passed
+time_after st zero = omega arith
+time_after st (suc passed) = let before = time_after st passed in tick_time (after_ticks passed st) ∙ omega arith
+
+-- through any ticks a wait's end stays set, or the wait is over
+set_or_over_after : (st : State) (t due passed : ℕ) → IsSetOrOver t due st.base → IsSetOrOver t due (after_ticks passed st).base
+set_or_over_after st t due zero has = has
+set_or_over_after st t due (suc passed) has = tick_or_over (after_ticks passed st) t due (set_or_over_after st t due passed has)
+
+-- with one more its wait is over, also one that is served
 pub wait_over : (st : State) (t object : ℕ) (order : Order) (n : ℕ) (k : Task) → task_at st.base t ≡ Some k → AreInTimeOrder st.base.events →
     is_waiting (after_ticks (suc n) (record st { base = make_wait st.base t object order (pos n) })).base t ≡ false
 wait_over st t object order n k at set =
     let first : State = record st { base = make_wait st.base t object order (pos n) } in
-    let last : IsSet (st.base.time + n) t (Some (st.base.time + n + 1)) true (after_ticks n first).base = begun st t object order n n k at (omega arith) in
-    let time : (after_ticks n first).base.time ≡ st.base.time + n = last.at in
-    tick_ends (after_ticks n first) t (st.base.time + n + 1) (order_after n first (order_waits st.base t object order n set)) last.limit (omega arith)
+    let begins : first.base.time ≡ st.base.time = entry_at (λ c. c.time ≡ st.base.time) (task_at st.base t) k st.base _ at refl in
+    let time : (after_ticks n first).base.time ≡ first.base.time + n = time_after first n in
+    tick_over (after_ticks n first) t (st.base.time + n + 1) (order_after n first (order_waits st.base t object order n set))
+    (set_or_over_after first t (st.base.time + n + 1) n (inl (limit_set st.base t object order n k at))) (omega arith)

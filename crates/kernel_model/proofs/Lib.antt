@@ -25,3 +25,4 @@ pub mod Picks
 pub mod Serving
 pub mod Trial
 pub mod Served
+pub mod FamilyPlaces

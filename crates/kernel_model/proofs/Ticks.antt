@@ -1,7 +1,5 @@
 -- A tick takes all that falls due by the time that it makes.
 use Rattle.std.proofs.Common.{◌≡◌, ℕ, suc, zero, ◌+◌, ◌<◌, ◌≤◌, Bool, true, false, not, List, [], ◌∷◌, Option, Some, None, length, drop, refl, cond, ap, sym, subst, arith}
-use Rattle.std.specs.Prelude.{fold}
-use Rattle.std.specs.Bool.{◌==◌}
 use Rattle.std.specs.List.{All, filter}
 use Rattle.std.proofs.lemmas.Bool.Decides.{nat_tests}
 use Rattle.std.proofs.lemmas.List.Elements.{All-cons, All-nil, All-weaker}
@@ -11,12 +9,12 @@ use Rattle.tk_types.specs.declared.task.Event.{Event}
 use Rattle.tk_types.specs.declared.task.Event.TheVariants.{Wait, Cyclic, Alarm}
 use Rattle.tk_types.specs.declared.task.DueEvent.{DueEvent}
 use Rattle.kernel_model.specs.Events.{ends_wait_of, due_event, is_due, left_after, first_event}
-use Rattle.kernel_model.specs.Base.{Base, task_at, is_waiting_phase, current, set_current, release, take_due}
-use Rattle.kernel_model.specs.Priority.{current_of, refresh, taken_from, resettle}
+use Rattle.kernel_model.specs.Base.{Base, task_at, is_waiting_phase, release, take_due}
 use Rattle.kernel_model.specs.State.{State}
 use Rattle.kernel_model.specs.Ticks.{limit_answer, fallen, due_done, tick_state}
 use Rattle.kernel_model.specs.TimeOrder.{AreLater, AreInTimeOrder}
 use Rattle.kernel_model.proofs.Tables.{entry_cases}
+use Rattle.kernel_model.proofs.Served.{BaseRefreshed, settle_keeps_base}
 
 -- ---- lists of events
 
@@ -63,21 +61,14 @@ release_has : (now : ℕ) (P : List DueEvent → Type 0) (b : Base) (t : ℕ) (r
 release_has now P b t result kept has = entry_cases (Has now P) (task_at b t) b _ has
     (λ k at. release_if now P b _ (is_waiting_phase k.phase) has (has.0, kept (λ event. not (ends_wait_of t event)) b.events has.1))
 
-refresh_if : (now : ℕ) (P : List DueEvent → Type 0) (b : Base) (t priority : ℕ) (same : Bool) → Has now P b → Has now P (cond same b (set_current b t priority))
-refresh_if now P b t priority true has = has
-refresh_if now P b t priority false has = entry_cases (Has now P) (task_at b t) b _ has (λ k at. has)
-
-refresh_each : (now : ℕ) (P : List DueEvent → Type 0) (ids : List ℕ) (b : Base) → Has now P b → Has now P (fold refresh b ids)
-refresh_each now P [] b has = has
-refresh_each now P (t ∷ ids) b has = refresh_each now P ids (refresh b t) (refresh_if now P b t (current_of b t) (current b t == current_of b t) has)
-
-resettle_has : (now : ℕ) (P : List DueEvent → Type 0) (b : Base) → Has now P b → Has now P (resettle b)
-unfolding resettle
-resettle_has now P b has = refresh_each now P (taken_from 1 (drop 1 b.tasks)) b has
+refreshed_has : (now : ℕ) (P : List DueEvent → Type 0) → BaseRefreshed (Has now P)
+refreshed_has now P b t changed has = entry_cases (Has now P) (task_at b t) b _ has (λ k at. has)
 
 fallen_has : (now : ℕ) (P : List DueEvent → Type 0) (st : State) (what : Event) → ((p : DueEvent → Bool) (events : List DueEvent) → P events → P (filter p events)) → Has now P st.base → Has now P (fallen st what).base
 unfolding fallen
-fallen_has now P st (Wait t) kept has = resettle_has now P (release st.base t (limit_answer st.base t)) (release_has now P st.base t (limit_answer st.base t) kept has)
+fallen_has now P st (Wait t) kept has =
+    settle_keeps_base (Has now P) (refreshed_has now P) (λ b u object answer above waits is. release_has now P b u answer kept is)
+    (record st { base = release st.base t (limit_answer st.base t) }) (release_has now P st.base t (limit_answer st.base t) kept has)
 fallen_has now P st (Cyclic n) kept has = has
 fallen_has now P st (Alarm n) kept has = has
 

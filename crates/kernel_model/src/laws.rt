@@ -1,11 +1,12 @@
 //! Laws of the definitions, each the contract of a function that does nothing.
 
-ghost use Rattle.std.specs.Prelude.{◌≡◌, ℕ, suc, ◌+◌, ◌<◌, ◌≤◌, ◌==◌, if◌then◌else◌, filter, Bool, false, true, ℤ, pos, List, length, ◌∷◌, ◌++◌, None, Some};
+ghost use Rattle.std.specs.Prelude.{◌≡◌, ℕ, suc, ◌+◌, ◌<◌, ◌≤◌, ◌==◌, if◌then◌else◌, filter, Bool, false, true, ℤ, pos, List, length, ◌∷◌, ◌++◌, ◌⊎◌, None, Some};
 ghost use Rattle.std.specs.Int.{is_negative};
 ghost use Rattle.tk_types.specs.declared.answer.Answer.{Answer};
 ghost use Rattle.tk_types.specs.declared.answer.Outcome.TheVariants.{Returned};
 ghost use Rattle.tk_types.specs.declared.answer.Who.{Who};
 ghost use Rattle.tk_types.specs.declared.answer.Who.TheVariants as whos;
+ghost use Rattle.tk_types.specs.declared.calls.SemFlagCall.{SemFlagCall};
 ghost use Rattle.tk_types.specs.declared.calls.TaskCall.{TaskCall};
 ghost use Rattle.tk_types.specs.declared.error_code.Er.TheVariants as er;
 ghost use Rattle.tk_types.specs.declared.task.DueEvent.{DueEvent};
@@ -16,16 +17,17 @@ ghost use Rattle.tk_types.specs.declared.task.Task.{Task};
 ghost use Rattle.kernel_model.specs.declared.objects.EventFlag.{EventFlag};
 ghost use Rattle.kernel_model.specs.declared.objects.FlagWish.{FlagWish};
 ghost use Rattle.kernel_model.specs.declared.objects.Semaphore.{Semaphore};
-ghost use Rattle.kernel_model.specs.Base.{Base, chosen, current, dispatch, is_ready, is_waiting, is_waiting_phase, make_ready, make_wait, queue, ready_list, ready_of, release, resume, suspensions_of, task_at};
+ghost use Rattle.kernel_model.specs.Base.{Base, chosen, current, dispatch, is_ready, is_waiting, is_waiting_phase, make_ready, make_wait, queue, ready_list, ready_of, release, resume, suspensions_of, task_at, waits_for};
 ghost use Rattle.kernel_model.specs.Checks.{failed};
 ghost use Rattle.kernel_model.specs.Events.{due_event, insert_event, limit_of};
 ghost use Rattle.kernel_model.specs.Once.{IsOnce, times};
 ghost use Rattle.kernel_model.specs.Orders.{without};
 ghost use Rattle.kernel_model.specs.Precedence.{KeepsPlace, NoneReady, Precedes, StandsLast, gives_place_away};
-ghost use Rattle.kernel_model.specs.Priority.{current_of, resettle};
+ghost use Rattle.kernel_model.specs.Priority.{current_of};
 ghost use Rattle.kernel_model.specs.Rising.{IsRisingBy};
-ghost use Rattle.kernel_model.specs.SemFlagCalls.{serves_at_once, waited_for_flag, waited_for_sem};
+ghost use Rattle.kernel_model.specs.SemFlagCalls.{sem_flag_call, serves_at_once, waited_for_flag, waited_for_sem};
 ghost use Rattle.kernel_model.specs.SemFlags.{SemFlagParts, SemFlags, flag_at, has_bits, sem_at, serve_flag, serve_sem};
+ghost use Rattle.kernel_model.specs.Settle.{settle};
 ghost use Rattle.kernel_model.specs.State.{State};
 ghost use Rattle.kernel_model.specs.TaskCalls.{task_call};
 ghost use Rattle.kernel_model.specs.Ticks.{tick_state};
@@ -50,20 +52,23 @@ pub fn the_ready_list_is_in_order()
 {}
 
 /// A task that is preempted keeps its place: a task that makes a call and stays ready, with the priority that it
-/// has, stays the first of its equals, unless the call gives its place away by what it means. Neither a dispatch
-/// to another task, nor the end of another one's wait, nor what settling makes of others' priorities, nor a whole
-/// tick changes that.
+/// has, stays the first of its equals, unless the call gives its place away by what it means, which none on semaphores
+/// and event flags does. Neither a dispatch to another task, nor the end of another one's wait, nor settling, whatever
+/// becomes of others' priorities and whoever is served, nor a whole tick changes that.
 pub fn preempted_task_keeps_its_place()
     ensures call { (b : Base) (t : ℕ) (call : TaskCall) → KeepsPlace b t → is_ready b t ≡ true →
         gives_place_away t call ≡ false →
         is_ready (task_call b (whos.Task t) call).base t ≡ true →
         current (task_call b (whos.Task t) call).base t ≡ current b t →
         KeepsPlace (task_call b (whos.Task t) call).base t }
+    ensures family { (b : Base) (s : SemFlags) (t : ℕ) (call : SemFlagCall) → KeepsPlace b t → is_ready b t ≡ true →
+        is_ready (sem_flag_call b s (whos.Task t) call).base t ≡ true →
+        KeepsPlace (sem_flag_call b s (whos.Task t) call).base t }
     ensures dispatch { (b : Base) (t : ℕ) → KeepsPlace b t → KeepsPlace (dispatch b) t }
     ensures wait_ends { (b : Base) (t u : ℕ) (result : Answer) → KeepsPlace b t → is_ready b t ≡ true →
         KeepsPlace (release b u result) t }
-    ensures settled { (b : Base) (t : ℕ) → KeepsPlace b t → is_ready b t ≡ true → current b t ≡ current_of b t →
-        KeepsPlace (resettle b) t }
+    ensures settled { (st : State) (t : ℕ) → KeepsPlace st.base t → is_ready st.base t ≡ true →
+        current st.base t ≡ current_of st.base t → KeepsPlace (settle st).base t }
     ensures tick { (st : State) (t : ℕ) → KeepsPlace st.base t → is_ready st.base t ≡ true →
         current st.base t ≡ current_of st.base t → KeepsPlace (tick_state st).base t }
 {}
@@ -81,7 +86,9 @@ pub fn released_task_stands_last()
 
 /// A time-out falls due in its tick: a wait with a limit of n milliseconds that begins at a time is set for that time
 /// and n + 1. While no more than n have passed it isn't what is due; with one more it is, where nothing else comes
-/// first. So through n ticks the task waits on, and with the next one its wait is over.
+/// first. So through n ticks the task waits on, where nothing serves its wait, as in a sleep or a delay: the objects from
+/// 64 on are semaphores and event flags, and a wait for one of those may be served meanwhile. With the next tick the wait
+/// is over, whatever it is for.
 pub fn time_outs_fall_due_in_their_tick()
     ensures limit { (b : Base) (t object : ℕ) (order : Order) (n : ℕ) (k : Task) → task_at b t ≡ Some k →
         limit_of t (make_wait b t object order (pos n)).events ≡ Some (b.time + n + 1) }
@@ -91,20 +98,26 @@ pub fn time_outs_fall_due_in_their_tick()
     ensures ends { (b : Base) (t object : ℕ) (order : Order) (n : ℕ) (k : Task) → task_at b t ≡ Some k → AreLater (b.time + n + 1) b.events →
         let later = after_time (n + 1) (make_wait b t object order (pos n)) in
         due_event later.time later.events ≡ Some (Wait t) }
-    ensures waits_on { (st : State) (t object : ℕ) (order : Order) (n passed : ℕ) (k : Task) → task_at st.base t ≡ Some k → passed ≤ n →
+    ensures waits_on { (st : State) (t object : ℕ) (order : Order) (n passed : ℕ) (k : Task) → task_at st.base t ≡ Some k → object < 64 → passed ≤ n →
         is_waiting (after_ticks passed (record st { base = make_wait st.base t object order (pos n) })).base t ≡ true }
     ensures is_over { (st : State) (t object : ℕ) (order : Order) (n : ℕ) (k : Task) → task_at st.base t ≡ Some k → AreInTimeOrder st.base.events →
         is_waiting (after_ticks (suc n) (record st { base = make_wait st.base t object order (pos n) })).base t ≡ false }
 {}
 
-/// A tick ends the waits whose time has come, and no other: one that makes an earlier time than that of a wait's end
-/// leaves it set, and its task waiting, and so does every tick where a wait has no limit; one that makes that time ends
-/// the wait.
+/// A tick ends the waits whose time has come, and otherwise only those that are served: one that makes an earlier time
+/// than that of a wait's end, and every tick where a wait has no limit, leaves it set and its task waiting, or the task is
+/// served, which ends a wait for an object from 64 on alone, a semaphore or an event flag. A tick that makes the time of a
+/// wait's end ends the wait.
 pub fn a_tick_ends_the_waits_whose_time_has_come()
-    ensures stays_set { (st : State) (t : ℕ) → ComesAfter (st.base.time + 1) (limit_of t st.base.events) →
+    ensures stays_set { (st : State) (t object : ℕ) → waits_for st.base object t ≡ true → object < 64 →
+        ComesAfter (st.base.time + 1) (limit_of t st.base.events) →
         limit_of t (tick_state st).base.events ≡ limit_of t st.base.events }
-    ensures waits_on { (st : State) (t : ℕ) → ComesAfter (st.base.time + 1) (limit_of t st.base.events) →
-        is_waiting (tick_state st).base t ≡ is_waiting st.base t }
+    ensures waits_on { (st : State) (t object : ℕ) → waits_for st.base object t ≡ true → object < 64 →
+        ComesAfter (st.base.time + 1) (limit_of t st.base.events) →
+        waits_for (tick_state st).base object t ≡ true }
+    ensures served_or_waits_on { (st : State) (t : ℕ) → ComesAfter (st.base.time + 1) (limit_of t st.base.events) →
+        ((limit_of t (tick_state st).base.events ≡ limit_of t st.base.events) × (is_waiting (tick_state st).base t ≡ is_waiting st.base t))
+        ⊎ (is_waiting (tick_state st).base t ≡ false) }
     ensures is_over { (st : State) (t due : ℕ) → AreInTimeOrder st.base.events → limit_of t st.base.events ≡ Some due → due ≤ st.base.time + 1 →
         is_waiting (tick_state st).base t ≡ false }
 {}
@@ -123,11 +136,13 @@ pub fn events_fall_due_in_order()
     ensures tick { (st : State) → AreInTimeOrder st.base.events → AreLater (st.base.time + 1) (tick_state st).base.events }
 {}
 
-/// A call on tasks that is refused changes nothing: where a call answers a negative value, which is an error, all that
-/// the kernel keeps is as it was.
+/// A call on tasks, or on semaphores and event flags, that is refused changes nothing: where a call answers a negative
+/// value, which is an error, all that the kernel keeps is as it was.
 pub fn a_call_that_is_refused_changes_nothing()
-    ensures { (b : Base) (who : Who) (call : TaskCall) (answer : Answer) → (task_call b who call).outcome ≡ Returned answer →
+    ensures tasks { (b : Base) (who : Who) (call : TaskCall) (answer : Answer) → (task_call b who call).outcome ≡ Returned answer →
         is_negative answer.value ≡ true → (task_call b who call).base ≡ b }
+    ensures sem_flags { (b : Base) (s : SemFlags) (who : Who) (call : SemFlagCall) (answer : Answer) → (sem_flag_call b s who call).outcome ≡ Returned answer →
+        is_negative answer.value ≡ true → ((sem_flag_call b s who call).base ≡ b) × ((sem_flag_call b s who call).table ≡ s) }
 {}
 
 /// A release ends one wait: it leaves every other task's row as it was, the task no longer waits, one task fewer waits

@@ -1,3 +1,4 @@
+use Rattle.kernel_model.proofs.FamilyPlaces.{family_keeps_place}
 use Rattle.kernel_model.proofs.Preemption.{call_keeps_place}
 use Rattle.kernel_model.proofs.Releases.{release_keeps_place}
 use Rattle.kernel_model.proofs.TickEnds.{settling_keeps_place, tick_keeps_place}
@@ -5,6 +6,9 @@ use Rattle.kernel_model.proofs.laws.preempted_task_keeps_its_place.Goals as goal
 
 pub returns-clause-call : goal.returns-clause-call
 returns-clause-call c = call_keeps_place
+
+pub returns-clause-family : goal.returns-clause-family
+returns-clause-family c = family_keeps_place
 
 pub returns-clause-dispatch : goal.returns-clause-dispatch
 returns-clause-dispatch c = λ b t is. record { before = is.before; behind = is.behind; stands = is.stands; ahead = is.ahead }
