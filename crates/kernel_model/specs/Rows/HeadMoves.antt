@@ -1,5 +1,6 @@
 -- A released head lets the next waiter be served; a change to the same priority moves the head behind its equal; a
--- terminated head is passed by the one behind it, which is served where there is enough for it.
+-- terminated head is passed by the one behind it, which is served where there is enough for it; a waiter that gets a
+-- higher priority passes the head.
 use Rattle.std.specs.Prelude.{ℕ, pos, negsuc, List, [], ◌∷◌, ◌++◌, None, codes, ◌≡◌, refl}
 use Rattle.std.specs.Fmt.{digits}
 use Rattle.tk_types.specs.declared.script.Script.{Script}
@@ -61,6 +62,13 @@ script = record {
             stmts.Call names.TkRefSem (args.Number (pos 1) ∷ []) ∷
             stmts.Call names.TkSigSem (args.Number (pos 1) ∷ args.Number (pos 1) ∷ []) ∷
             stmts.Call names.TkTerTsk (args.Number (pos 5) ∷ []) ∷
+            stmts.Call names.TkStaTsk (args.Number (pos 5) ∷ args.Number (pos 3) ∷ []) ∷
+            stmts.Call names.TkStaTsk (args.Number (pos 6) ∷ args.Number (pos 1) ∷ []) ∷
+            stmts.Call names.TkSigSem (args.Number (pos 1) ∷ args.Number (pos 1) ∷ []) ∷
+            stmts.Call names.TkRefSem (args.Number (pos 1) ∷ []) ∷
+            stmts.Call names.TkChgPri (args.Number (pos 6) ∷ args.Number (pos 8) ∷ []) ∷
+            stmts.Call names.TkRefSem (args.Number (pos 1) ∷ []) ∷
+            stmts.Call names.TkRelWai (args.Number (pos 5) ∷ []) ∷
             stmts.Call names.TkRefSem (args.Number (pos 1) ∷ []) ∷
             [];
       } ∷
@@ -132,10 +140,31 @@ lines =
     codes "30 D 4\n" ++
     codes "31 C 4 tk_ext_tsk 0\n" ++
     codes "31 D 1\n" ++
-    codes "32 C 1 tk_ref_sem 0 0 0\n" ++
-    codes "33 C 1 tk_ext_tsk 0\n" ++
-    codes "33 D 0\n" ++
-    codes "33 END idle\n" ++
+    codes "32 C 1 tk_sta_tsk 0\n" ++
+    codes "32 D 5\n" ++
+    codes "33 B 5 tk_wai_sem\n" ++
+    codes "33 D 1\n" ++
+    codes "34 C 1 tk_sta_tsk 0\n" ++
+    codes "34 D 6\n" ++
+    codes "35 B 6 tk_wai_sem\n" ++
+    codes "35 D 1\n" ++
+    codes "36 C 1 tk_sig_sem 0\n" ++
+    codes "37 C 1 tk_ref_sem 0 1 5\n" ++
+    codes "38 C 1 tk_chg_pri 0\n" ++
+    codes "38 W 6 tk_wai_sem 0\n" ++
+    codes "38 D 6\n" ++
+    codes "39 C 6 tk_ext_tsk 0\n" ++
+    codes "39 D 1\n" ++
+    codes "40 C 1 tk_ref_sem 0 0 5\n" ++
+    codes "41 C 1 tk_rel_wai 0\n" ++
+    codes "41 W 5 tk_wai_sem E_RLWAI\n" ++
+    codes "41 D 5\n" ++
+    codes "42 C 5 tk_ext_tsk 0\n" ++
+    codes "42 D 1\n" ++
+    codes "43 C 1 tk_ref_sem 0 0 0\n" ++
+    codes "44 C 1 tk_ext_tsk 0\n" ++
+    codes "44 D 0\n" ++
+    codes "44 END idle\n" ++
     []
 
 -- the texts of the trace, and the end of the run

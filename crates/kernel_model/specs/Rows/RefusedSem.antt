@@ -53,12 +53,12 @@ script = record {
             stmts.Call names.TkSigSem (args.Number (pos 65) ∷ args.Number (pos 0) ∷ []) ∷
             stmts.Call names.TkSigSem (args.Number (negsuc 0) ∷ args.Number (pos 1) ∷ []) ∷
             stmts.Call names.TkSigSem (args.Number (pos 1) ∷ args.Number (pos 0) ∷ []) ∷
-            stmts.Call names.TkSigSem (args.Number (pos 1) ∷ args.Number (pos 1) ∷ []) ∷
+            stmts.Call names.TkSigSem (args.Number (pos 1) ∷ args.Number (pos 65536) ∷ []) ∷
             stmts.Call names.TkWaiSem (args.Number (pos 0) ∷ args.Number (pos 0) ∷ args.Number (negsuc 1) ∷ []) ∷
             stmts.Call names.TkWaiSem (args.Number (pos 65) ∷ args.Number (pos 1) ∷ args.Number (negsuc 0) ∷ []) ∷
             stmts.Call names.TkWaiSem (args.Number (pos 1) ∷ args.Number (pos 0) ∷ args.Number (negsuc 0) ∷ []) ∷
             stmts.Call names.TkWaiSem (args.Number (pos 1) ∷ args.Number (pos 1) ∷ args.Number (negsuc 1) ∷ []) ∷
-            stmts.Call names.TkWaiSem (args.Number (pos 1) ∷ args.Number (pos 1) ∷ args.Number (negsuc 0) ∷ []) ∷
+            stmts.Call names.TkWaiSem (args.Number (pos 1) ∷ args.Number (pos 65536) ∷ args.Number (negsuc 0) ∷ []) ∷
             stmts.Call names.TkRefSem (args.Number (pos 65) ∷ []) ∷
             stmts.Call names.TkRefSem (args.Number (pos 64) ∷ []) ∷
             stmts.Call names.TkDelSem (args.Number (pos 0) ∷ []) ∷
