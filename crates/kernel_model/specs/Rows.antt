@@ -12,3 +12,15 @@ pub mod TimeOut
 pub mod Priorities
 pub mod Computing
 pub mod Released
+pub mod NextAfterTimeOut
+pub mod ClearedBetween
+pub mod HeadAndLater
+pub mod HeadLeaves
+pub mod HeadMoves
+pub mod JoinsFirst
+pub mod LimitedWaits
+pub mod ClearedInTurn
+pub mod DeletedObjects
+pub mod RefusedSem
+pub mod RefusedFlag
+pub mod FullTables

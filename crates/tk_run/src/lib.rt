@@ -7,6 +7,8 @@ mod entry;
 mod refusal;
 mod run;
 mod running;
+#[cfg(test)]
+mod sem_flag_runs;
 mod status;
 #[cfg(test)]
 mod task_runs;

@@ -6,11 +6,11 @@ use std::test::Fail;
 
 /// A script, the words that run it, its trace and its status.
 #[derive(Clone, Copy)]
-struct Case {
-    words: &'static str,
-    script: &'static [u8],
-    trace: &'static [u8],
-    status: Status,
+pub(crate) struct Case {
+    pub(crate) words: &'static str,
+    pub(crate) script: &'static [u8],
+    pub(crate) trace: &'static [u8],
+    pub(crate) status: Status,
 }
 
 /// Wake-up requests are counted, taken by sleeps, and cleared.
