@@ -5,6 +5,7 @@ ghost use Rattle.kernel_model.specs.Base.{back_unless_suspended, is_waiting, mak
 ghost use Rattle.tk_types.specs.declared.task.Phase.TheVariants.{Ready};
 ghost use Rattle.kernel_model.specs.Orders.{head_or_zero};
 ghost use Rattle.kernel_model.specs.Queues.{AreOfOrder, queue_at};
+ghost use Rattle.kernel_model.specs.Waits.{HavePlaces};
 ghost use Rattle.kernel_base.specs.Waiting.{next_waiting};
 ghost use Rattle.kernel_base.specs.Ready.{has_priorities};
 
@@ -88,6 +89,13 @@ impl Base {
         ensures { result ≡ slice_get (queue_at self.now obj) 0 }
     {
         self.waits.head(obj)
+    }
+
+    /// States, at no cost, that each task that waits has its places among the stamps and by the beginning of its wait.
+    pub fn waiters_have_places(&self)
+        ensures { HavePlaces self.now }
+    {
+        let _waits = &self.waits;
     }
 
     /// How many tasks wait for an object, whose number is below 1,024 and whose waiters queue in that order.

@@ -32,7 +32,8 @@ use Rattle.kernel_model.specs.Base.{Base, task_at, waiting_in, waits_for, waits_
 use Rattle.kernel_model.specs.SemFlags.{SemFlags, sem_at, flag_at, sem_object, flag_object, with_sem, with_flag, has_bits, flag_answer, taken_from_sem, cleared_flag}
 use Rattle.kernel_model.specs.SemFlagCalls
 use Rattle.kernel_model.specs.SemFlagCalls.{SemFlagDone, refused_with, sem_flag_checked, sem_flag_call, create_sem, create_flag, delete_sem, delete_flag, signal_sem, set_flag, clear_flag, refer_sem, refer_flag, wait_sem, wait_flag, free_sem, free_flag, first_ended, end_first, end_waits, sem_waits_ended, flag_waits_ended, signalled, repatterned, serves_at_once, waits_or_ends, waited_for_sem, waited_for_flag}
-use Rattle.kernel_model.specs.Waits.{FitsPhase, FitsRow, HavePlaces, order_for}
+use Rattle.kernel_model.specs.Queues.{AreOfOrder, queue_in}
+use Rattle.kernel_model.specs.Waits.{FitsPhase, FitsRow, HavePlaces, IsOrderly, order_for}
 use Rattle.kernel_model.proofs.Checked.{sem_flag_cases, holds_at}
 use Rattle.kernel_model.proofs.Once.{times_append, times_without}
 use Rattle.kernel_model.proofs.Queues.{queue_release}
@@ -393,3 +394,33 @@ family_fits b s who (call.DelSem id) has all =
     checked_right (SemFlagCalls.object_checks id (SemFlagCalls.has_sem s id) []) b s _ all (λ none. sem_deleted b s (natural id) (sem_at s (natural id)) refl has all)
 family_fits b s who (call.DelFlg id) has all =
     checked_right (SemFlagCalls.object_checks id (SemFlagCalls.has_flag s id) []) b s _ all (λ none. flag_deleted b s (natural id) (flag_at s (natural id)) refl has all)
+
+-- ---- the order of an object's waiters
+
+phase_order : (orders : Orders) (object : ℕ) (queued by : Order) (phase : Phase) → FitsPhase orders queued phase → waits_in object phase ≡ true → orders object ≡ Some by → queued ≡ by
+phase_order orders object queued by Ready fits waits is = absurd (cc waits)
+phase_order orders object queued by Dormant fits waits is = absurd (cc waits)
+phase_order orders object queued by (Waiting other) fits waits is =
+    let same : other ≡ object = grind (arith, nat_tests, waits) in
+    let here : orders object ≡ Some queued = subst (λ (o : ℕ). orders o ≡ Some queued) same fits in
+    cc (here, is)
+
+row_order : (orders : Orders) (object : ℕ) (by : Order) (slot : Option Task) → FitsRow orders slot → waiting_in object slot ≡ true → orders object ≡ Some by → queue_in slot ≡ by
+row_order orders object by None fits waits is = absurd (cc waits)
+row_order orders object by (Some k) fits waits is = phase_order orders object k.queue by k.phase fits waits is
+
+-- where tasks wait in the order of what they wait for, an object's waiters queue as it says
+waiters_order : (b : Base) (s : SemFlags) (object : ℕ) (by : Order) → IsOrderly b s → order_for s object ≡ Some by → AreOfOrder by b object
+waiters_order b s object by all is = record { alike = λ t waits. row_order (order_for s) object by (task_at b t) (all.each t) waits is }
+
+pub sleepers_order : (b : Base) (s : SemFlags) → IsOrderly b s → AreOfOrder Fifo b 0
+sleepers_order b s all = waiters_order b s 0 Fifo all refl
+
+pub delayed_order : (b : Base) (s : SemFlags) → IsOrderly b s → AreOfOrder Fifo b 1
+delayed_order b s all = waiters_order b s 1 Fifo all refl
+
+pub sem_waiters_order : (b : Base) (s : SemFlags) (id : ℕ) (k : Semaphore) → IsOrderly b s → 1 ≤ id → id ≤ 64 → sem_at s id ≡ Some k → AreOfOrder k.order b (sem_object id)
+sem_waiters_order b s id k all one last at = waiters_order b s (sem_object id) k.order all (sem_order_is s id one last ∙ ap sem_order at)
+
+pub flag_waiters_order : (b : Base) (s : SemFlags) (id : ℕ) (k : EventFlag) → IsOrderly b s → 1 ≤ id → id ≤ 64 → flag_at s id ≡ Some k → AreOfOrder k.order b (flag_object id)
+flag_waiters_order b s id k all one last at = waiters_order b s (flag_object id) k.order all (flag_order_is s id one last ∙ ap flag_order at)

@@ -12,6 +12,6 @@ none_in (suc n) (suc id) = none_in n id
 
 pub queued_at_start : (b : Base) (s : SemFlags) → s ≡ sem_flags_start → AreQueued b s
 queued_at_start b s is = record {
-  sems = λ id k there. absurd (cc (ap (λ (t : SemFlags). entry t.sems id) is, none_in 65 id, there));
-  flags = λ id k there. absurd (cc (ap (λ (t : SemFlags). entry t.flags id) is, none_in 65 id, there));
+  sems = λ id k low high there. absurd (cc (ap (λ (t : SemFlags). entry t.sems id) is, none_in 65 id, there));
+  flags = λ id k low high there. absurd (cc (ap (λ (t : SemFlags). entry t.flags id) is, none_in 65 id, there));
 }

@@ -1,5 +1,5 @@
 -- The base beside the tables, as parts of one state.
-use Rattle.std.specs.Prelude.{ℕ, ◌≡◌, ◌-◌, nat_le, nat_lt, ◌&&◌, if◌then◌else◌, Option, Some, None}
+use Rattle.std.specs.Prelude.{ℕ, ◌≡◌, ◌≤◌, ◌-◌, nat_le, nat_lt, ◌&&◌, if◌then◌else◌, Option, Some, None}
 use Rattle.kernel_model.specs.declared.objects.Semaphore.{Semaphore}
 use Rattle.kernel_model.specs.declared.objects.EventFlag.{EventFlag}
 use Rattle.kernel_model.specs.Base.{Base}
@@ -11,8 +11,8 @@ parts_of b s = record { base = b; table = s }
 
 -- the waiters of each semaphore and of each flag queue as its attributes say
 pub record AreQueued (b : Base) (s : SemFlags) : Type 0 where
-  pub sems : (id : ℕ) (k : Semaphore) → sem_at s id ≡ Some k → AreOfOrder k.order b (sem_object id)
-  pub flags : (id : ℕ) (k : EventFlag) → flag_at s id ≡ Some k → AreOfOrder k.order b (flag_object id)
+  pub sems : (id : ℕ) (k : Semaphore) → 1 ≤ id → id ≤ 64 → sem_at s id ≡ Some k → AreOfOrder k.order b (sem_object id)
+  pub flags : (id : ℕ) (k : EventFlag) → 1 ≤ id → id ≤ 64 → flag_at s id ≡ Some k → AreOfOrder k.order b (flag_object id)
 
 -- one waiter of the object with that number is served, where one can be: semaphores have the numbers from 64 on, flags
 -- those from 128 on

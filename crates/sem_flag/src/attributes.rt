@@ -1,6 +1,6 @@
 //! Attributes and modes.
 
-ghost use Rattle.std.specs.Prelude.{◌≡◌, Some, None, if◌then◌else◌};
+ghost use Rattle.std.specs.Prelude.{◌≡◌, ◌≤◌, IfSome, Some, None, if◌then◌else◌};
 ghost use Rattle.kernel_model.specs.Checks.{natural, within};
 ghost use Rattle.kernel_model.specs.SemFlagCalls.{has_flag_attributes, has_sem_attributes, is_mode, order_of};
 
@@ -58,7 +58,9 @@ pub(crate) fn is_mode(mode: FlagMode) -> bool
 
 /// The object that a number from 1 to 64 names.
 pub(crate) fn object_id(id: i32) -> Option<u8>
-    ensures { result ≡ (if within 1 64 id then Some (natural id) else None) }
+    ensures known { result ≡ (if within 1 64 id then Some (natural id) else None) }
+    ensures low { IfSome result (λ id. 1 ≤ id) }
+    ensures high { IfSome result (λ id. id ≤ 64) }
 {
     if id < 1 || id > 64 {
         return None;

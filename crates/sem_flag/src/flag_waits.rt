@@ -16,7 +16,8 @@ use tk_types::{Er, FlagMode, Outcome, Who};
 
 /// Whether one task more may wait for an event flag.
 fn may_join(base: &Base, table: &SemFlags, row: EventFlag, id: u8) -> bool
-    requires known { id ≤ 64 }
+    requires low { 1 ≤ id }
+    requires high { id ≤ 64 }
     requires there { flag_at table.now id ≡ Some row }
     requires queued { AreQueued base.now table.now }
     ensures { result ≡ may_join base.now id (Some row) }
@@ -36,7 +37,8 @@ fn answer_or_wait(
 ) -> Outcome
     requires few { base.old.made < 2 ^ 63 }
     requires early { base.old.time < 2 ^ 63 }
-    requires known { id ≤ 64 }
+    requires low { 1 ≤ id }
+    requires high { id ≤ 64 }
     requires there { flag_at table.old id ≡ Some row }
     requires queued { AreQueued base.old table.old }
     ensures { waited_for_flag base.old table.old task id wish timeout (Some row) ≡ record { base = base.new; table = table.new; outcome = result } }

@@ -40,7 +40,8 @@ fn serves_at_once(
     task: u8,
     count: u16,
 ) -> bool
-    requires known { id ≤ 64 }
+    requires low { 1 ≤ id }
+    requires high { id ≤ 64 }
     requires there { sem_at table.now id ≡ Some row }
     requires queued { AreQueued base.now table.now }
     ensures { result ≡ serves_at_once base.now row id task count }

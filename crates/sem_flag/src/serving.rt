@@ -156,7 +156,8 @@ fn find_fulfilled(base: &Base, table: &SemFlags, row: EventFlag, obj: u32) -> Op
 /// Serves one waiter of a semaphore, where one can be served.
 #[tactic(auto, unfolding(kernel_model::specs::SemFlags::serve_sem))]
 fn serve_sem(base: &mut Base, table: &mut SemFlags, id: u8) -> bool
-    requires known { id ≤ 64 }
+    requires low { 1 ≤ id }
+    requires high { id ≤ 64 }
     requires queued { AreQueued base.old table.old }
     ensures served { result ≡ is_some (serve_sem base.old table.old id) }
     ensures left { parts_of base.new table.new ≡ unwrap_or (serve_sem base.old table.old id) (parts_of base.old table.old) }
@@ -176,7 +177,8 @@ fn serve_sem(base: &mut Base, table: &mut SemFlags, id: u8) -> bool
 /// Serves one waiter of an event flag, where one can be served.
 #[tactic(auto, unfolding(kernel_model::specs::SemFlags::serve_flag))]
 fn serve_flag(base: &mut Base, table: &mut SemFlags, id: u8) -> bool
-    requires known { id ≤ 64 }
+    requires low { 1 ≤ id }
+    requires high { id ≤ 64 }
     requires queued { AreQueued base.old table.old }
     ensures served { result ≡ is_some (serve_flag base.old table.old id) }
     ensures left { parts_of base.new table.new ≡ unwrap_or (serve_flag base.old table.old id) (parts_of base.old table.old) }

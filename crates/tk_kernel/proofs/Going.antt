@@ -11,25 +11,26 @@ use Rattle.kernel_model.specs.Statements.{IsRunnable, memory_size, start_frame}
 use Rattle.kernel_model.specs.Settle.{dispatched}
 use Rattle.kernel_model.specs.Step.{step}
 use Rattle.kernel_model.specs.Trace.{start}
-use Rattle.tk_types.specs.declared.task.Order.TheVariants.{Fifo}
-use Rattle.kernel_model.specs.Queues.{AreOfOrder}
-use Rattle.kernel_model.proofs.WaitOrders.{start_in_order, step_in_order}
+use Rattle.kernel_model.specs.SemFlags.{SemFlags, sem_flags_start}
+use Rattle.kernel_model.specs.Waits.{HavePlaces, IsOrderly}
+use Rattle.kernel_model.proofs.StepOrders.{start_orderly, step_orderly}
 use Rattle.kernel_model.proofs.Counts.{start_counted, start_unstepped, step_counted, step_left}
 use Rattle.tk_kernel.specs.Budgets.{IsGoing}
 
 -- the parts of the start are the start
-pub started : (script : Script) (inside base : Base) (bodies : List ℕ) (frames : List Frame) (frame : Frame) (memory : List ℕ) → inside ≡ base → base ≡ base_start script.boot.priority → bodies ≡ replicate 256 0 → frames ≡ replicate 256 no_frame →
+pub started : (script : Script) (inside base : Base) (table : SemFlags) (bodies : List ℕ) (frames : List Frame) (frame : Frame) (memory : List ℕ) → inside ≡ base → base ≡ base_start script.boot.priority → table ≡ sem_flags_start → bodies ≡ replicate 256 0 → frames ≡ replicate 256 no_frame →
     frame ≡ start_frame script.boot.body (pos 0) (pos 0) → memory ≡ replicate memory_size 0 →
-    record { base = inside; bodies = slice_set bodies 1 script.boot.body; frames = slice_set frames 1 frame; memory = memory; ticks = 0; halted = false; steps = 0 } ≡ state_start script
+    record { base = inside; sem_flags = table; bodies = slice_set bodies 1 script.boot.body; frames = slice_set frames 1 frame; memory = memory; ticks = 0; halted = false; steps = 0 } ≡ state_start script
 unfolding state_start
-started script inside base bodies frames frame memory same start no_bodies no_frames first empty =
-    let with_parts : Base → List ℕ → List Frame → Frame → List ℕ → State =
-    λ b bs fs f m. record { base = b; bodies = slice_set bs 1 script.boot.body; frames = slice_set fs 1 f; memory = m; ticks = 0; halted = false; steps = 0 } in
-    ap (λ (b : Base). with_parts b bodies frames frame memory) (same ∙ start)
-    ∙ (ap (λ (bs : List ℕ). with_parts (base_start script.boot.priority) bs frames frame memory) no_bodies
-    ∙ (ap (λ (fs : List Frame). with_parts (base_start script.boot.priority) (replicate 256 0) fs frame memory) no_frames
-    ∙ (ap (λ (f : Frame). with_parts (base_start script.boot.priority) (replicate 256 0) (replicate 256 no_frame) f memory) first
-    ∙ ap (λ (m : List ℕ). with_parts (base_start script.boot.priority) (replicate 256 0) (replicate 256 no_frame) (start_frame script.boot.body (pos 0) (pos 0)) m) empty)))
+started script inside base table bodies frames frame memory same start no_objects no_bodies no_frames first empty =
+    let with_parts : Base → SemFlags → List ℕ → List Frame → Frame → List ℕ → State =
+    λ b s bs fs f m. record { base = b; sem_flags = s; bodies = slice_set bs 1 script.boot.body; frames = slice_set fs 1 f; memory = m; ticks = 0; halted = false; steps = 0 } in
+    ap (λ (b : Base). with_parts b table bodies frames frame memory) (same ∙ start)
+    ∙ (ap (λ (s : SemFlags). with_parts (base_start script.boot.priority) s bodies frames frame memory) no_objects
+    ∙ (ap (λ (bs : List ℕ). with_parts (base_start script.boot.priority) sem_flags_start bs frames frame memory) no_bodies
+    ∙ (ap (λ (fs : List Frame). with_parts (base_start script.boot.priority) sem_flags_start (replicate 256 0) fs frame memory) no_frames
+    ∙ (ap (λ (f : Frame). with_parts (base_start script.boot.priority) sem_flags_start (replicate 256 0) (replicate 256 no_frame) f memory) first
+    ∙ ap (λ (m : List ℕ). with_parts (base_start script.boot.priority) sem_flags_start (replicate 256 0) (replicate 256 no_frame) (start_frame script.boot.body (pos 0) (pos 0)) m) empty))))
 
 pub going_at_start : (script : Script) (budget : ℕ) (first state : State) → IsRunnable script → 1 ≤ budget → budget ≤ 1000000 → first ≡ state_start script → state ≡ (dispatched 0 first).state → IsGoing script budget state None false
 unfolding start
@@ -40,18 +41,16 @@ going_at_start script budget first state runnable low high at_first at_state =
       limit = high;
       left = λ f o. let none : state.steps ≡ 0 = ap (λ st. st.steps) at ∙ start_unstepped script in omega arith;
       counts = λ f o. subst IsCounted (sym at) (start_counted script);
-      sleepers = λ f o. subst (λ (st : State). AreOfOrder Fifo st.base 0) (sym at) (start_in_order 0 script);
-      delayed = λ f o. subst (λ (st : State). AreOfOrder Fifo st.base 1) (sym at) (start_in_order 1 script);
+      orderly = λ f o. subst (λ (st : State). IsOrderly st.base st.sem_flags) (sym at) (start_orderly script);
     }
 
-pub going_after_step : (script : Script) (budget : ℕ) (old new : State) (over : Option End) (failed : Bool) → IsRunnable script → budget ≤ 1000000 → old.steps < budget → IsCounted old → AreOfOrder Fifo old.base 0 → AreOfOrder Fifo old.base 1 → new ≡ (step script budget old).state → over ≡ (step script budget old).over → IsGoing script budget new over failed
-going_after_step script budget old new over failed runnable high below counts sleepers delayed at_new at_over = record {
+pub going_after_step : (script : Script) (budget : ℕ) (old new : State) (over : Option End) (failed : Bool) → IsRunnable script → budget ≤ 1000000 → old.steps < budget → IsCounted old → HavePlaces old.base → IsOrderly old.base old.sem_flags → new ≡ (step script budget old).state → over ≡ (step script budget old).over → IsGoing script budget new over failed
+going_after_step script budget old new over failed runnable high below counts places orderly at_new at_over = record {
   runnable = runnable;
   limit = high;
   left = λ f o. subst (λ (st : State). st.steps < budget) (sym at_new) (step_left script budget old below (sym at_over ∙ o));
   counts = λ f o. subst IsCounted (sym at_new) (step_counted script budget old counts (sym at_over ∙ o));
-  sleepers = λ f o. subst (λ (st : State). AreOfOrder Fifo st.base 0) (sym at_new) (step_in_order 0 script budget old sleepers);
-  delayed = λ f o. subst (λ (st : State). AreOfOrder Fifo st.base 1) (sym at_new) (step_in_order 1 script budget old delayed);
+  orderly = λ f o. subst (λ (st : State). IsOrderly st.base st.sem_flags) (sym at_new) (step_orderly script budget old places orderly);
 }
 
 pub none_left : (over : Option End) → ((end : End) → over ≡ Some end → ⊥) → over ≡ None

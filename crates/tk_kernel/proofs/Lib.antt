@@ -1,2 +1,3 @@
 pub mod Going
 pub mod Following
+pub mod Serving

@@ -1,31 +1,14 @@
 //! Calls of tasks, and what follows from them for the bodies of the script.
 
 ghost use Rattle.std.specs.Prelude.{◌≡◌, ◌<◌, ◌^◌, ◌++◌, OnOk};
-ghost use Rattle.kernel_model.specs.Calls.{answered, base_call, begun, call_lines, called, noted, with_body, with_start};
-ghost use Rattle.kernel_model.specs.Queues.{AreOfOrder};
-ghost use Rattle.tk_types.specs.declared.task.Order.TheVariants.{Fifo};
+ghost use Rattle.kernel_model.specs.Calls.{answered, begun, call_lines, called, family_call, noted, with_body, with_start};
+ghost use Rattle.kernel_model.specs.Waits.{IsOrderly};
 
 use crate::kernel::Kernel;
-use kernel_base::Base;
 use kernel_base::answers::failed;
 use std::alloc::AllocError;
 use task_machine::{give, start_frame};
 use tk_types::{Call, CallName, Er, Line, Outcome, TaskCall, Who};
-
-/// A call of a task, by the family of the call.
-#[tactic(auto, unfolding(kernel_model::specs::Calls::base_call))]
-fn base_call(base: &mut Base, task: u8, call: &Call) -> Outcome
-    requires few { base.old.made < 2 ^ 63 }
-    requires early { base.old.time < 2 ^ 63 }
-    requires sleepers { AreOfOrder Fifo base.old 0 }
-    requires delayed { AreOfOrder Fifo base.old 1 }
-    ensures { base_call base.old task call.now ≡ record { base = base.new; outcome = result } }
-{
-    match call {
-        Call::Task(call) => task_calls::call(base, Who::Task(task), call),
-        _ => failed(Er::NoSpt),
-    }
-}
 
 /// Adds the line of a call: it returned, or its task waits. The entry of an extended call has none.
 fn push_call_line(
@@ -51,6 +34,23 @@ fn push_call_line(
 }
 
 impl Kernel {
+    /// A call of a task, by the family of the call.
+    #[tactic(auto, unfolding(kernel_model::specs::Calls::family_call))]
+    fn family_call(&mut self, task: u8, call: &Call) -> Outcome
+        requires few { self.old.base.made < 2 ^ 63 }
+        requires early { self.old.base.time < 2 ^ 63 }
+        requires orderly { IsOrderly self.old.base self.old.sem_flags }
+        ensures { family_call self.old task call.now ≡ record { state = self.new; outcome = result } }
+    {
+        match call {
+            Call::Task(call) => task_calls::call(&mut self.base, Who::Task(task), call),
+            Call::SemFlag(call) => {
+                sem_flag::call(&mut self.base, &mut self.sem_flags, Who::Task(task), call)
+            }
+            _ => failed(Er::NoSpt),
+        }
+    }
+
     /// A created task gets its body.
     fn set_body(&mut self, task: i32, body: u8)
         ensures { self.new ≡ with_body self.old task body }
@@ -124,12 +124,11 @@ impl Kernel {
     ) -> Result<(), AllocError>
         requires few { self.old.base.made < 2 ^ 63 }
         requires early { self.old.base.time < 2 ^ 63 }
-        requires sleepers { AreOfOrder Fifo self.old.base 0 }
-        requires delayed { AreOfOrder Fifo self.old.base 1 }
+        requires orderly { IsOrderly self.old.base self.old.sem_flags }
         ensures state { OnOk result (self.new ≡ (called step self.old task call.now).state) }
         ensures lines { OnOk result (lines.new.items ≡ lines.old.items ++ (called step self.old task call.now).lines) }
     {
-        let outcome = base_call(&mut self.base, task, call);
+        let outcome = self.family_call(task, call);
         self.take_answer(task, call, outcome);
         push_call_line(lines, step, task, call.name(), outcome)
     }

@@ -5,16 +5,18 @@ ghost use Rattle.kernel_model.specs.Statements.{IsRunnable};
 ghost use Rattle.kernel_model.specs.State.{frame_of, no_frame, state_start, with_frame};
 
 use kernel_base::Base;
+use sem_flag::SemFlags;
 use std::alloc::{AllocError, Global};
 use std::marker::Model;
 use task_machine::{Memory, new_memory, start_frame};
 use tk_types::{Frame, Script};
 
-/// The kernel, which body a start of each task begins, where each task's body is being done, the script's memory, the
+/// The kernel, semaphores and event flags, which body a start of each task begins, where each task's body is being done, the script's memory, the
 /// ticks that are pending, whether `halt` was done, and how many steps are done.
 #[derive(Drop)]
 pub(crate) struct Kernel {
     pub(crate) base: Base,
+    pub(crate) sem_flags: SemFlags,
     pub(crate) bodies: Vec<u8>,
     pub(crate) frames: Vec<Frame>,
     pub(crate) memory: Memory,
@@ -29,7 +31,7 @@ impl Model for Kernel {
 
     ghost Value = { State };
 
-    ghost view = { λ k. record { base = k.base; bodies = k.bodies.items; frames = k.frames.items; memory = k.memory; ticks = k.ticks; halted = k.halted; steps = k.steps } };
+    ghost view = { λ k. record { base = k.base; sem_flags = k.sem_flags; bodies = k.bodies.items; frames = k.frames.items; memory = k.memory; ticks = k.ticks; halted = k.halted; steps = k.steps } };
 
     ghost invariant = { λ k. AreTables k.bodies.items k.frames.items };
 }
@@ -65,12 +67,14 @@ impl Kernel {
     {
         let body = script.boot.body;
         let base = Base::new(alloc, script.boot.priority)?;
+        let sem_flags = SemFlags::new(alloc)?;
         let mut bodies = no_bodies(alloc)?;
         bodies[1] = body;
         let mut frames = no_frames(alloc)?;
         frames[1] = start_frame(body, 0, 0);
         Ok(Kernel {
             base,
+            sem_flags,
             bodies,
             frames,
             memory: new_memory(alloc)?,

@@ -6,8 +6,7 @@ ghost use Rattle.kernel_model.specs.Machine.{Machine as MachineView, after_step,
 ghost use Rattle.kernel_model.specs.Statements.{IsRunnable};
 ghost use Rattle.kernel_model.specs.Step.{step};
 ghost use Rattle.tk_kernel.specs.Pace.{pace_of};
-ghost use Rattle.kernel_model.specs.Queues.{AreOfOrder};
-ghost use Rattle.tk_types.specs.declared.task.Order.TheVariants.{Fifo};
+ghost use Rattle.kernel_model.specs.Waits.{IsOrderly};
 
 use crate::kernel::Kernel;
 use crate::stepping::push_end;
@@ -61,8 +60,7 @@ fn advance(
     requires limit { budget ≤ 1000000 }
     requires left { kernel.old.steps < budget }
     requires counts { IsCounted kernel.old }
-    requires sleepers { AreOfOrder Fifo kernel.old.base 0 }
-    requires delayed { AreOfOrder Fifo kernel.old.base 1 }
+    requires orderly { IsOrderly kernel.old.base kernel.old.sem_flags }
     ensures state { OnOk result (kernel.new ≡ (step script.now budget kernel.old).state) }
     ensures ending { IfOk result (λ over. over ≡ (step script.now budget kernel.old).over) }
     ensures lines { OnOk result (lines.new.items ≡ lines.old.items ++ (step script.now budget kernel.old).lines) }
@@ -120,6 +118,7 @@ impl Machine {
         if let Some(end) = self.over {
             return Ok(Pace::Over(end));
         }
+        self.kernel.base.waiters_have_places();
         match advance(&mut self.kernel, &self.script, self.budget, &mut self.lines) {
             Ok(over) => {
                 self.over = over;

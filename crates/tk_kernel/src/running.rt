@@ -3,8 +3,7 @@
 ghost use Rattle.std.specs.Prelude.{◌≡◌, ◌<◌, ◌^◌, ◌∷◌, ◌++◌, OnOk, []};
 ghost use Rattle.kernel_model.specs.Statements.{IsRunnable};
 ghost use Rattle.kernel_model.specs.Step.{acted, ran, said_line};
-ghost use Rattle.kernel_model.specs.Queues.{AreOfOrder};
-ghost use Rattle.tk_types.specs.declared.task.Order.TheVariants.{Fifo};
+ghost use Rattle.kernel_model.specs.Waits.{IsOrderly};
 
 use crate::kernel::Kernel;
 use std::alloc::AllocError;
@@ -41,8 +40,7 @@ impl Kernel {
     ) -> Result<(), AllocError>
         requires few { self.old.base.made < 2 ^ 63 }
         requires early { self.old.base.time < 2 ^ 63 }
-        requires sleepers { AreOfOrder Fifo self.old.base 0 }
-        requires delayed { AreOfOrder Fifo self.old.base 1 }
+        requires orderly { IsOrderly self.old.base self.old.sem_flags }
         ensures state { OnOk result (self.new ≡ (acted step self.old task act.now).state) }
         ensures lines { OnOk result (lines.new.items ≡ lines.old.items ++ (acted step self.old task act.now).lines) }
     {
@@ -71,8 +69,7 @@ impl Kernel {
         requires runnable { IsRunnable script.now }
         requires few { self.old.base.made < 2 ^ 63 }
         requires early { self.old.base.time < 2 ^ 63 }
-        requires sleepers { AreOfOrder Fifo self.old.base 0 }
-        requires delayed { AreOfOrder Fifo self.old.base 1 }
+        requires orderly { IsOrderly self.old.base self.old.sem_flags }
         ensures state { OnOk result (self.new ≡ (ran script.now step self.old task).state) }
         ensures lines { OnOk result (lines.new.items ≡ lines.old.items ++ (ran script.now step self.old task).lines) }
     {

@@ -1,17 +1,21 @@
 //! What follows each event: settling, the lines of the waits that ended, and the dispatch.
 
-ghost use Rattle.std.specs.Prelude.{◌≡◌, ◌≤◌, ◌++◌, OnOk, true};
+ghost use Rattle.std.specs.Prelude.{◌≡◌, ◌≤◌, ◌++◌, OnOk, true, unwrap_or};
 ghost use Rattle.std.specs.Option.{is_some};
 ghost use Rattle.kernel_model.specs.Base.{task_at};
 ghost use Rattle.tk_types.specs.declared.call_name.CallName.{CallName};
 ghost use Rattle.kernel_model.specs.Priority.{current_of, refresh, resettle};
-ghost use Rattle.kernel_model.specs.Settle.{dispatched, follow_release, followed, release_line, settle, with_releases};
+ghost use Rattle.kernel_model.specs.Waits.{IsOrderly};
+ghost use Rattle.kernel_model.specs.Settle.{dispatched, follow_release, followed, refreshed, release_line, serve_first, settle, with_releases};
 
 use crate::kernel::Kernel;
 use kernel_base::{Base, Release};
 use std::alloc::AllocError;
 use task_machine::{call_before, give};
 use tk_types::{CallName, Line, Script};
+
+/// The most servings of one settling: each ends a wait, and no more tasks wait than have a slot.
+const MOST_SERVINGS: usize = 256;
 
 /// The current priority of a task by definition.
 fn current_of(base: &Base, task: u8) -> u8
@@ -69,11 +73,36 @@ fn push_release_line(
 }
 
 impl Kernel {
-    /// Settling: changed priorities are taken over.
-    pub(crate) fn settle(&mut self)
-        ensures { self.new ≡ settle self.old }
+    /// Changed priorities are taken over.
+    fn refresh(&mut self)
+        ensures { self.new ≡ refreshed self.old }
     {
         resettle(&mut self.base);
+    }
+
+    /// The first object by kind and ID that can serve a waiter serves one. False, with nothing changed, comes exactly where
+    /// none can.
+    fn serve_first(&mut self) -> bool
+        requires orderly { IsOrderly self.old.base self.old.sem_flags }
+        ensures served { result ≡ is_some (serve_first self.old) }
+        ensures left { self.new ≡ unwrap_or (serve_first self.old) self.old }
+    {
+        sem_flag::serve_first(&mut self.base, &mut self.sem_flags)
+    }
+
+    /// Settling: changed priorities are taken over, and waiters are served one after another until none can be.
+    #[tactic(auto, unfolding(kernel_model::specs::Settle::settle))]
+    pub(crate) fn settle(&mut self)
+        requires orderly { IsOrderly self.old.base self.old.sem_flags }
+        ensures { self.new ≡ settle self.old }
+    {
+        self.refresh();
+        'servings: for _served in 0..MOST_SERVINGS {
+            if !self.serve_first() {
+                return;
+            }
+            self.refresh();
+        }
     }
 
     /// A wait that ended has its line, and its answer goes into the registers of its task.
@@ -135,6 +164,7 @@ impl Kernel {
         step: u32,
         lines: &mut Vec<Line>,
     ) -> Result<(), AllocError>
+        requires orderly { IsOrderly self.old.base self.old.sem_flags }
         ensures state { OnOk result (self.new ≡ (followed script.now step self.old).state) }
         ensures lines { OnOk result (lines.new.items ≡ lines.old.items ++ (followed script.now step self.old).lines) }
     {

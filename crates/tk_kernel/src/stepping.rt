@@ -5,8 +5,7 @@ ghost use Rattle.std.specs.Bool.{◌==◌};
 ghost use Rattle.kernel_model.specs.Statements.{IsRunnable};
 ghost use Rattle.kernel_model.specs.Step.{counted, done_at, end_after, end_lines, has_tick, is_paced, is_quiet, paced, worked};
 ghost use Rattle.kernel_model.specs.Settle.{Event};
-ghost use Rattle.kernel_model.specs.Queues.{AreOfOrder};
-ghost use Rattle.tk_types.specs.declared.task.Order.TheVariants.{Fifo};
+ghost use Rattle.kernel_model.specs.Waits.{IsOrderly};
 
 use crate::kernel::Kernel;
 use std::alloc::AllocError;
@@ -89,8 +88,7 @@ impl Kernel {
         requires runnable { IsRunnable script.now }
         requires few { self.old.base.made < 2 ^ 63 }
         requires early { self.old.base.time < 2 ^ 63 }
-        requires sleepers { AreOfOrder Fifo self.old.base 0 }
-        requires delayed { AreOfOrder Fifo self.old.base 1 }
+        requires orderly { IsOrderly self.old.base self.old.sem_flags }
         ensures state { OnOk result (self.new ≡ (done_at script.now step self.old).state) }
         ensures lines { OnOk result (lines.new.items ≡ lines.old.items ++ (done_at script.now step self.old).lines) }
     {
@@ -116,12 +114,12 @@ impl Kernel {
         requires runnable { IsRunnable script.now }
         requires few { self.old.base.made < 2 ^ 63 }
         requires early { self.old.base.time < 2 ^ 63 }
-        requires sleepers { AreOfOrder Fifo self.old.base 0 }
-        requires delayed { AreOfOrder Fifo self.old.base 1 }
+        requires orderly { IsOrderly self.old.base self.old.sem_flags }
         requires ticks { self.old.ticks < 2 ^ 31 }
         ensures state { OnOk result (self.new ≡ (worked script.now step self.old).state) }
         ensures lines { OnOk result (lines.new.items ≡ lines.old.items ++ (worked script.now step self.old).lines) }
     {
+        self.base.waiters_have_places();
         self.set_pace(script, step);
         self.do_step(script, step, lines)?;
         self.follow(script, step, lines)

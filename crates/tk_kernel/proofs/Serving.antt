@@ -1,0 +1,82 @@
+-- Settling, one serving after another; and what the parts of the state ask of each other.
+use Rattle.std.proofs.Common.{◌≡◌, ℕ, zero, suc, ◌+◌, ◌-◌, ◌<◌, ◌≤◌, Bool, true, false, Option, Some, None, refl, sym, ◌∙◌, ap, subst, arith}
+use Rattle.std.specs.Prelude.{unwrap_or}
+use Rattle.std.specs.Option.{is_some, option_map}
+use Rattle.kernel_model.specs.Base.{Base}
+use Rattle.kernel_model.specs.Priority.{current_of, resettle}
+use Rattle.kernel_model.specs.SemFlags.{SemFlags, SemFlagParts, serve_sem_flag}
+use Rattle.kernel_model.specs.State.{State}
+use Rattle.kernel_model.specs.Settle.{refreshed, serve_first, served_within}
+use Rattle.kernel_model.specs.Waits.{IsOrderly}
+use Rattle.kernel_model.proofs.FamilyOrders.{sem_waiters_order, flag_waiters_order}
+use Rattle.kernel_model.proofs.Served.{resettle_keeps, serving, with_parts}
+use Rattle.kernel_model.proofs.StepOrders.{current_orderly, serving_orderly}
+use Rattle.sem_flag.specs.Parts.{AreQueued, parts_of}
+
+-- where each task that waits stands in the order of what it waits for, those of semaphores and flags do
+pub queued : (b : Base) (s : SemFlags) → IsOrderly b s → AreQueued b s
+queued b s all = record {
+  sems = λ id k low high there. sem_waiters_order b s id k all low high there;
+  flags = λ id k low high there. flag_waiters_order b s id k all low high there;
+}
+
+-- ---- one serving
+
+some_same : (served : Option SemFlagParts) (st : State) → is_some (option_map (with_parts st) served) ≡ is_some served
+some_same None st = refl
+some_same (Some parts) st = refl
+
+-- a serving of the parts is one of the state
+pub first_is : (st : State) → is_some (serve_first st) ≡ is_some (serve_sem_flag st.base st.sem_flags)
+first_is st = some_same (serve_sem_flag st.base st.sem_flags) st
+
+parts_left : (served : Option SemFlagParts) (st : State) (b : Base) (s : SemFlags) → parts_of b s ≡ unwrap_or served (parts_of st.base st.sem_flags) → with_parts st (parts_of b s) ≡ unwrap_or (option_map (with_parts st) served) st
+parts_left None st b s left = ap (with_parts st) left
+parts_left (Some parts) st b s left = ap (with_parts st) left
+
+-- and leaves the rest
+pub first_left : (st : State) (b : Base) (s : SemFlags) → parts_of b s ≡ unwrap_or (serve_sem_flag st.base st.sem_flags) (parts_of st.base st.sem_flags) → record st { base = b; sem_flags = s } ≡ unwrap_or (serve_first st) st
+first_left st b s left = parts_left (serve_sem_flag st.base st.sem_flags) st b s left
+
+orderly_of : (st now : State) (served : Option SemFlagParts) → serve_sem_flag st.base st.sem_flags ≡ served → IsOrderly st.base st.sem_flags → now ≡ unwrap_or (option_map (with_parts st) served) st → IsOrderly now.base now.sem_flags
+orderly_of st now None is all same = subst (λ (st : State). IsOrderly st.base st.sem_flags) (sym same) all
+orderly_of st now (Some parts) is all same = subst (λ (st : State). IsOrderly st.base st.sem_flags) (sym same) (serving_orderly st.base st.sem_flags parts (serving st.base st.sem_flags parts is) all)
+
+-- each task that waits still stands in its order
+pub served_orderly : (st now : State) → IsOrderly st.base st.sem_flags → now ≡ unwrap_or (serve_first st) st → IsOrderly now.base now.sem_flags
+served_orderly st now all same = orderly_of st now (serve_sem_flag st.base st.sem_flags) refl all same
+
+pub refreshed_orderly : (st now : State) → IsOrderly st.base st.sem_flags → now ≡ refreshed st → IsOrderly now.base now.sem_flags
+refreshed_orderly st now all same =
+    subst (λ (st : State). IsOrderly st.base st.sem_flags) (sym same) (resettle_keeps IsOrderly (λ b s t changed has. current_orderly b s t (current_of b t) has) st.base st.sem_flags all)
+
+-- ---- one after another
+
+more_of : (left : ℕ) (st now : State) (next : Option State) → serve_first st ≡ next → is_some next ≡ true → now ≡ unwrap_or next st → served_within (suc left) st ≡ served_within left (refreshed now)
+unfolding served_within
+more_of left st now None is some same = absurd (cc some)
+more_of left st now (Some served) is some same = rw is (ap (λ (st : State). served_within left (refreshed st)) (sym same))
+
+-- one waiter more is served
+pub served_more : (done : ℕ) (st now after all : State) → done < 256 → is_some (serve_first st) ≡ true → now ≡ unwrap_or (serve_first st) st → after ≡ refreshed now → served_within (256 - done) st ≡ all → served_within (256 - (done + 1)) after ≡ all
+served_more done st now after all below some same refresh left =
+    let one : 256 - done ≡ suc (256 - (done + 1)) = omega arith in
+    ap (served_within (256 - (done + 1))) refresh
+    ∙ sym (more_of (256 - (done + 1)) st now (serve_first st) refl some same)
+    ∙ ap (λ n. served_within n st) (sym one)
+    ∙ left
+
+over_of : (left : ℕ) (st now : State) (next : Option State) → serve_first st ≡ next → is_some next ≡ false → now ≡ unwrap_or next st → served_within left st ≡ now
+unfolding served_within
+over_of zero st now None is none same = sym same
+over_of (suc left) st now None is none same = rw is (sym same)
+over_of left st now (Some served) is none same = absurd (cc none)
+
+-- none can be served any more
+pub served_over : (left : ℕ) (st now all : State) → is_some (serve_first st) ≡ false → now ≡ unwrap_or (serve_first st) st → served_within left st ≡ all → now ≡ all
+served_over left st now all none same rest = sym (over_of left st now (serve_first st) refl none same) ∙ rest
+
+-- so many were served
+pub served_spent : (done : ℕ) (st all : State) → 256 ≤ done → served_within (256 - done) st ≡ all → st ≡ all
+unfolding served_within
+served_spent done st all spent rest = let none : 256 - done ≡ 0 = omega arith in sym (ap (λ n. served_within n st) none) ∙ rest
