@@ -1,5 +1,5 @@
 -- Semaphores and event flags: their tables, who can be served, and what serving does.
-use Rattle.std.specs.Prelude.{ℕ, ◌+◌, ◌-◌, ◌==◌, Bool, true, false, not, nat_le, if◌then◌else◌, pos, List, [], ◌∷◌, Option, Some, None, replicate, slice_set, slice_index, bit_and, bit_xor}
+use Rattle.std.specs.Prelude.{ℕ, ◌+◌, ◌-◌, ◌==◌, Bool, true, false, not, nat_le, if◌then◌else◌, pos, List, [], ◌∷◌, Option, Some, None, replicate, slice_set, slice_index, bit_and, bit_xor, drop}
 use Rattle.std.specs.List.{find, slice_index_or}
 use Rattle.std.specs.Int.{w32, cast_signed}
 use Rattle.tk_types.specs.declared.answer.Answer.{Answer}
@@ -9,6 +9,7 @@ use Rattle.kernel_model.specs.declared.objects.FlagWish.{FlagWish}
 use Rattle.kernel_model.specs.Orders.{entry}
 use Rattle.kernel_model.specs.Checks.{answer, plain}
 use Rattle.kernel_model.specs.Base.{Base, queue, release}
+use Rattle.kernel_model.specs.Priority.{taken_from}
 
 pub record SemFlags : Type 0 where
   pub sems : List (Option Semaphore)  -- by ID, 65 slots
@@ -133,7 +134,7 @@ serve_flag_at b s id (Some k) = serve_flag_of b s id k (flag_served s k b id)
 unfoldable pub serve_flag : Base → SemFlags → ℕ → Option SemFlagParts
 serve_flag b s id = serve_flag_at b s id (flag_at s id)
 
--- ---- the first object that can be served
+-- ---- the first object that can serve one
 
 abbrev pub or_else : Option SemFlagParts → Option SemFlagParts → Option SemFlagParts
 or_else (Some parts) later = Some parts
@@ -143,6 +144,12 @@ or_else None later = later
 unfoldable pub first_served : (ℕ → Option SemFlagParts) → List ℕ → Option SemFlagParts
 first_served serve [] = None
 first_served serve (id ∷ ids) = let later = first_served serve ids in or_else (serve id) later
+
+-- the first semaphore by ID that can serve a waiter serves one, and where none can, the first flag
+unfoldable pub serve_sem_flag : Base → SemFlags → Option SemFlagParts
+serve_sem_flag b s =
+    let flags = first_served (serve_flag b s) (taken_from 1 (drop 1 s.flags)) in
+    or_else (first_served (serve_sem b s) (taken_from 1 (drop 1 s.sems))) flags
 
 -- the start: no semaphore and no flag
 abbrev pub sem_flags_start : SemFlags
