@@ -14,5 +14,5 @@ mod table;
 mod tests;
 
 pub use calls::call;
-pub use serving::serve;
+pub use serving::{serve, serve_first};
 pub use table::SemFlags;

@@ -1,11 +1,12 @@
 //! Waiters are served, one at a time.
 
-ghost use Rattle.std.specs.Prelude.{◌≡◌, ◌<◌, ◌≤◌, Some, unwrap_or};
+ghost use Rattle.std.specs.Prelude.{◌≡◌, ◌<◌, ◌≤◌, Some, drop, unwrap_or};
 ghost use Rattle.std.specs.List.{find};
 ghost use Rattle.std.specs.Option.{is_some};
 ghost use Rattle.kernel_model.specs.Base.{queue};
+ghost use Rattle.kernel_model.specs.Priority.{taken_from};
 ghost use Rattle.kernel_model.specs.Queues.{AreOfOrder};
-ghost use Rattle.kernel_model.specs.SemFlags.{cleared_by, cleared_flag, first_if, flag_answer, has_bits, is_fulfilled, is_there, sem_pick, serve_flag, serve_sem, taken_from_sem};
+ghost use Rattle.kernel_model.specs.SemFlags.{cleared_by, cleared_flag, first_if, first_served, flag_answer, has_bits, is_fulfilled, is_there, sem_pick, serve_flag, serve_sem, serve_sem_flag, taken_from_sem};
 ghost use Rattle.sem_flag.specs.Parts.{AreQueued, parts_of, serve_object};
 
 use crate::table::SemFlags;
@@ -209,4 +210,48 @@ pub fn serve(base: &mut Base, table: &mut SemFlags, obj: u32) -> bool
         return serve_flag(base, table, (obj - (FIRST_FLAG - 1)) as u8);
     }
     false
+}
+
+/// Serves one waiter at the first semaphore by ID that can serve one, where there is one.
+fn serve_first_sem(base: &mut Base, table: &mut SemFlags) -> bool
+    requires queued { AreQueued base.old table.old }
+    ensures served { result ≡ is_some (first_served (serve_sem base.old table.old) (taken_from 1 (drop 1 table.old.sems))) }
+    ensures left { parts_of base.new table.new ≡ unwrap_or (first_served (serve_sem base.old table.old) (taken_from 1 (drop 1 table.old.sems))) (parts_of base.old table.old) }
+{
+    let slots = table.slots();
+    'sems: for id in 1..slots {
+        if serve_sem(base, table, id) {
+            return true;
+        }
+    }
+    false
+}
+
+/// Serves one waiter at the first event flag by ID that can serve one, where there is one.
+fn serve_first_flag(base: &mut Base, table: &mut SemFlags) -> bool
+    requires queued { AreQueued base.old table.old }
+    ensures served { result ≡ is_some (first_served (serve_flag base.old table.old) (taken_from 1 (drop 1 table.old.flags))) }
+    ensures left { parts_of base.new table.new ≡ unwrap_or (first_served (serve_flag base.old table.old) (taken_from 1 (drop 1 table.old.flags))) (parts_of base.old table.old) }
+{
+    let slots = table.slots();
+    'flags: for id in 1..slots {
+        if serve_flag(base, table, id) {
+            return true;
+        }
+    }
+    false
+}
+
+/// Serves one waiter at the first object that can serve one: semaphores by rising ID, then event flags. False, with
+/// nothing changed, comes exactly where no object can serve one.
+#[tactic(auto, unfolding(kernel_model::specs::SemFlags::serve_sem_flag))]
+pub fn serve_first(base: &mut Base, table: &mut SemFlags) -> bool
+    requires queued { AreQueued base.old table.old }
+    ensures served { result ≡ is_some (serve_sem_flag base.old table.old) }
+    ensures left { parts_of base.new table.new ≡ unwrap_or (serve_sem_flag base.old table.old) (parts_of base.old table.old) }
+{
+    if serve_first_sem(base, table) {
+        return true;
+    }
+    serve_first_flag(base, table)
 }

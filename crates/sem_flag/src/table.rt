@@ -103,6 +103,15 @@ impl SemFlags {
         })
     }
 
+    /// How many slots there are for semaphores, and as many for event flags: one for each ID, and one for 0.
+    pub(crate) fn slots(&self) -> u8
+        ensures sems { result ≡ length self.now.sems }
+        ensures flags { result ≡ length self.now.flags }
+        ensures within { result ≤ 65 }
+    {
+        self.sems.len() as u8
+    }
+
     /// Whether the semaphore with that ID exists.
     pub fn has_sem(&self, id: u8) -> bool
         ensures { result ≡ is_some (sem_at self.now id) }
