@@ -44,15 +44,19 @@ going_at_start script budget first state runnable low high at_first at_state =
       orderly = λ f o. subst (λ (st : State). IsOrderly st.base st.sem_flags) (sym at) (start_orderly script);
     }
 
-pub going_after_step : (script : Script) (budget : ℕ) (old new : State) (over : Option End) (failed : Bool) → IsRunnable script → budget ≤ 1000000 → old.steps < budget → IsCounted old → HavePlaces old.base → IsOrderly old.base old.sem_flags → new ≡ (step script budget old).state → over ≡ (step script budget old).over → IsGoing script budget new over failed
-going_after_step script budget old new over failed runnable high below counts places orderly at_new at_over = record {
+pub going_after_step : (script : Script) (budget : ℕ) (old new : State) (over : Option End) (failed : Bool) → IsRunnable script → budget ≤ 1000000 → old.steps < budget → IsCounted old → IsOrderly new.base new.sem_flags → new ≡ (step script budget old).state → over ≡ (step script budget old).over → IsGoing script budget new over failed
+going_after_step script budget old new over failed runnable high below counts orderly at_new at_over = record {
   runnable = runnable;
   limit = high;
   left = λ f o. subst (λ (st : State). st.steps < budget) (sym at_new) (step_left script budget old below (sym at_over ∙ o));
   counts = λ f o. subst IsCounted (sym at_new) (step_counted script budget old counts (sym at_over ∙ o));
-  orderly = λ f o. subst (λ (st : State). IsOrderly st.base st.sem_flags) (sym at_new) (step_orderly script budget old places orderly);
+  orderly = λ f o. orderly;
 }
 
 pub none_left : (over : Option End) → ((end : End) → over ≡ Some end → ⊥) → over ≡ None
 none_left None differs = refl
 none_left (Some end) differs = absurd (differs end refl)
+
+-- each task that waits stands in its order after a step
+pub orderly_after_step : (script : Script) (budget : ℕ) (old new : State) → HavePlaces old.base → IsOrderly old.base old.sem_flags → new ≡ (step script budget old).state → IsOrderly new.base new.sem_flags
+orderly_after_step script budget old new places orderly at_new = subst (λ (st : State). IsOrderly st.base st.sem_flags) (sym at_new) (step_orderly script budget old places orderly)

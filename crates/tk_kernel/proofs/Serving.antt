@@ -2,15 +2,18 @@
 use Rattle.std.proofs.Common.{◌≡◌, ℕ, zero, suc, ◌+◌, ◌-◌, ◌<◌, ◌≤◌, Bool, true, false, Option, Some, None, refl, sym, ◌∙◌, ap, subst, arith}
 use Rattle.std.specs.Prelude.{unwrap_or}
 use Rattle.std.specs.Option.{is_some, option_map}
-use Rattle.kernel_model.specs.Base.{Base}
+use Rattle.tk_types.specs.declared.answer.Answer.{Answer}
+use Rattle.tk_types.specs.declared.task.Event.{Event}
+use Rattle.kernel_model.specs.Base.{Base, release, take_due}
 use Rattle.kernel_model.specs.Priority.{current_of, resettle}
 use Rattle.kernel_model.specs.SemFlags.{SemFlags, SemFlagParts, serve_sem_flag}
 use Rattle.kernel_model.specs.State.{State}
-use Rattle.kernel_model.specs.Settle.{refreshed, serve_first, served_within}
+use Rattle.kernel_model.specs.Settle.{refreshed, serve_first, served_within, settle}
+use Rattle.kernel_model.specs.Ticks.{fallen}
 use Rattle.kernel_model.specs.Waits.{IsOrderly}
 use Rattle.kernel_model.proofs.FamilyOrders.{sem_waiters_order, flag_waiters_order}
-use Rattle.kernel_model.proofs.Served.{resettle_keeps, serving, with_parts}
-use Rattle.kernel_model.proofs.StepOrders.{current_orderly, serving_orderly}
+use Rattle.kernel_model.proofs.Served.{next_served, resettle_keeps, serving, with_parts}
+use Rattle.kernel_model.proofs.StepOrders.{current_orderly, fallen_orderly, release_orderly, serving_orderly}
 use Rattle.sem_flag.specs.Parts.{AreQueued, parts_of}
 
 -- where each task that waits stands in the order of what it waits for, those of semaphores and flags do
@@ -55,7 +58,7 @@ refreshed_orderly st now all same =
 more_of : (left : ℕ) (st now : State) (next : Option State) → serve_first st ≡ next → is_some next ≡ true → now ≡ unwrap_or next st → served_within (suc left) st ≡ served_within left (refreshed now)
 unfolding served_within
 more_of left st now None is some same = absurd (cc some)
-more_of left st now (Some served) is some same = rw is (ap (λ (st : State). served_within left (refreshed st)) (sym same))
+more_of left st now (Some served) is some same = ap (next_served left st) is ∙ ap (λ (st : State). served_within left (refreshed st)) (sym same)
 
 -- one waiter more is served
 pub served_more : (done : ℕ) (st now after all : State) → done < 256 → is_some (serve_first st) ≡ true → now ≡ unwrap_or (serve_first st) st → after ≡ refreshed now → served_within (256 - done) st ≡ all → served_within (256 - (done + 1)) after ≡ all
@@ -69,7 +72,7 @@ served_more done st now after all below some same refresh left =
 over_of : (left : ℕ) (st now : State) (next : Option State) → serve_first st ≡ next → is_some next ≡ false → now ≡ unwrap_or next st → served_within left st ≡ now
 unfolding served_within
 over_of zero st now None is none same = sym same
-over_of (suc left) st now None is none same = rw is (sym same)
+over_of (suc left) st now None is none same = ap (next_served left st) is ∙ sym same
 over_of left st now (Some served) is none same = absurd (cc none)
 
 -- none can be served any more
@@ -80,3 +83,24 @@ served_over left st now all none same rest = sym (over_of left st now (serve_fir
 pub served_spent : (done : ℕ) (st all : State) → 256 ≤ done → served_within (256 - done) st ≡ all → st ≡ all
 unfolding served_within
 served_spent done st all spent rest = let none : 256 - done ≡ 0 = omega arith in sym (ap (λ n. served_within n st) none) ∙ rest
+
+pub settle_is : (st : State) → served_within 256 (refreshed st) ≡ settle st
+unfolding settle
+settle_is st = refl
+
+-- ---- ticks
+
+-- each task that waits still stands in its order when another's wait ends
+pub release_leaves_order : (view st : State) (base : Base) (t : ℕ) (answer : Answer) → view ≡ st → base ≡ release view.base t answer → IsOrderly st.base st.sem_flags → IsOrderly base view.sem_flags
+release_leaves_order view st base t answer same released all =
+    subst (λ (b : Base). IsOrderly b view.sem_flags) (sym released) (release_orderly view.base view.sem_flags t answer (subst (λ (st : State). IsOrderly st.base st.sem_flags) (sym same) all))
+
+taken_orderly : (b : Base) (s : SemFlags) → IsOrderly b s → IsOrderly (take_due b) s
+taken_orderly b s all = record { each = all.each }
+
+-- and when what is due has been done
+pub due_leaves_order : (view st now : State) (base : Base) (what : Event) → view ≡ st → base ≡ take_due view.base → now ≡ fallen (record view { base = base }) what → IsOrderly st.base st.sem_flags → IsOrderly now.base now.sem_flags
+due_leaves_order view st now base what same taken done all =
+    let here : IsOrderly view.base view.sem_flags = subst (λ (st : State). IsOrderly st.base st.sem_flags) (sym same) all in
+    let left : IsOrderly base view.sem_flags = subst (λ (b : Base). IsOrderly b view.sem_flags) (sym taken) (taken_orderly view.base view.sem_flags here) in
+    subst (λ (st : State). IsOrderly st.base st.sem_flags) (sym done) (fallen_orderly (record view { base = base }) what left)

@@ -2,6 +2,7 @@
 
 ghost use Rattle.std.specs.Prelude.{◌≡◌, IfOk, replicate, slice_set, unwrap_or};
 ghost use Rattle.kernel_model.specs.Statements.{IsRunnable};
+ghost use Rattle.kernel_model.specs.Waits.{HavePlaces};
 ghost use Rattle.kernel_model.specs.State.{frame_of, no_frame, state_start, with_frame};
 
 use kernel_base::Base;
@@ -96,6 +97,13 @@ impl Kernel {
         ensures { self.new ≡ with_frame self.old task frame }
     {
         self.frames[task as usize] = frame;
+    }
+
+    /// States, at no cost, that each task that waits has its places among the stamps and by the beginning of its wait.
+    pub(crate) fn waiters_have_places(&self)
+        ensures { HavePlaces self.now.base }
+    {
+        self.base.waiters_have_places();
     }
 
     /// How many steps are done.

@@ -64,14 +64,17 @@ fn advance(
     ensures state { OnOk result (kernel.new ≡ (step script.now budget kernel.old).state) }
     ensures ending { IfOk result (λ over. over ≡ (step script.now budget kernel.old).over) }
     ensures lines { OnOk result (lines.new.items ≡ lines.old.items ++ (step script.now budget kernel.old).lines) }
+    ensures orderly { OnOk result (IsOrderly kernel.new.base kernel.new.sem_flags) }
 {
+    kernel.waiters_have_places();
     if kernel.is_quiet() {
         push_end(lines, kernel.steps(), Some(End::Idle))?;
         return Ok(Some(End::Idle));
     }
     let step = kernel.steps() + 1;
     kernel.work(script, step, lines)?;
-    kernel.count(budget, step, lines)
+    let over = kernel.count(budget, step, lines)?;
+    Ok(over)
 }
 
 impl Machine {
@@ -118,7 +121,6 @@ impl Machine {
         if let Some(end) = self.over {
             return Ok(Pace::Over(end));
         }
-        self.kernel.base.waiters_have_places();
         match advance(&mut self.kernel, &self.script, self.budget, &mut self.lines) {
             Ok(over) => {
                 self.over = over;

@@ -119,7 +119,7 @@ impl Kernel {
         ensures state { OnOk result (self.new ≡ (worked script.now step self.old).state) }
         ensures lines { OnOk result (lines.new.items ≡ lines.old.items ++ (worked script.now step self.old).lines) }
     {
-        self.base.waiters_have_places();
+        self.waiters_have_places();
         self.set_pace(script, step);
         self.do_step(script, step, lines)?;
         self.follow(script, step, lines)

@@ -6,7 +6,6 @@ invariant_of-self c =
     going_after_step _ _ c.self.inside.kernel _ _ _ c.self.invariant.runnable c.self.invariant.limit
     (c.self.invariant.left c.if-self.false (none_left _ c.in_default.not-Some))
     (c.self.invariant.counts c.if-self.false (none_left _ c.in_default.not-Some))
-    c.waiters_have_places.ensures
-    (c.self.invariant.orderly c.if-self.false (none_left _ c.in_default.not-Some))
+    c.in-Ok.ensures.orderly
     c.in-Ok.ensures.state
     c.in-Ok.ensures.ending
