@@ -4,6 +4,7 @@ pub mod Once
 pub mod Counts
 pub mod WaitOrders
 pub mod FamilyOrders
+pub mod StepKeeps
 pub mod StepOrders
 pub mod Sorting
 pub mod ReadyLists
