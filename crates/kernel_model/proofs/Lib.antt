@@ -5,6 +5,7 @@ pub mod Counts
 pub mod WaitOrders
 pub mod FamilyOrders
 pub mod StepKeeps
+pub mod TableKeeps
 pub mod StepOrders
 pub mod Sorting
 pub mod ReadyLists
