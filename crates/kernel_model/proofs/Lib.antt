@@ -28,3 +28,5 @@ pub mod Serving
 pub mod Trial
 pub mod Served
 pub mod FamilyPlaces
+pub mod Settled
+pub mod Reached

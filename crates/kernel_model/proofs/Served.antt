@@ -178,7 +178,7 @@ next_keeps : (P : Base → SemFlags → Type 0) (left : ℕ) (st : State) (next 
 next_keeps P left st None is has rest serve = has
 next_keeps P left st (Some parts) is has rest serve = rest (refreshed (with_parts st parts)) (serve parts (serving st.base st.sem_flags parts is))
 
-served_keeps : (P : Base → SemFlags → Type 0) → Refreshed P → Served P → (left : ℕ) (st : State) → P st.base st.sem_flags → P (served_within left st).base (served_within left st).sem_flags
+pub served_keeps : (P : Base → SemFlags → Type 0) → Refreshed P → Served P → (left : ℕ) (st : State) → P st.base st.sem_flags → P (served_within left st).base (served_within left st).sem_flags
 unfolding served_within
 served_keeps P refresh serve zero st has = has
 served_keeps P refresh serve (suc left) st has =
