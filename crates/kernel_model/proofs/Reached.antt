@@ -1,7 +1,6 @@
 -- What holds of every state that a run comes to: nobody can be served, and each task's current priority is that of its
 -- definition. What follows settling in a step changes nothing that a serving reads.
-use Rattle.std.proofs.Common.{◌≡◌, ℕ, suc, zero, ◌+◌, ◌≤◌, Bool, true, false, List, [], ◌∷◌, Option, Some, None, length, drop, replicate, refl, ◌∙◌, ap, sym, arith}
-use Rattle.std.specs.Prelude.{slice_set}
+use Rattle.std.proofs.Common.{◌≡◌, ℕ, suc, zero, ◌+◌, ◌≤◌, List, [], ◌∷◌, Option, Some, None, drop, replicate, refl, ◌∙◌, ap, sym, arith}
 use Rattle.std.proofs.lemmas.List.{length-set}
 use Rattle.tk_types.specs.declared.script.Script.{Script}
 use Rattle.tk_types.specs.declared.task.Order.{Order}
@@ -10,11 +9,9 @@ use Rattle.tk_types.specs.declared.task.Task.{Task}
 use Rattle.tk_types.specs.declared.task.Phase.TheVariants.{Ready}
 use Rattle.kernel_model.specs.declared.objects.Semaphore.{Semaphore}
 use Rattle.kernel_model.specs.declared.objects.EventFlag.{EventFlag}
-use Rattle.kernel_model.specs.Orders.{entry}
-use Rattle.kernel_model.specs.Base.{Base, base_in, base_start, current, current_in, queue}
+use Rattle.kernel_model.specs.Base.{Base, base_in, current, current_in, queue}
 use Rattle.kernel_model.specs.Priority.{current_of, taken_from}
 use Rattle.kernel_model.specs.SemFlags.{SemFlags, SemFlagParts, sem_at, flag_at, sem_object, flag_object, is_there, is_fulfilled, sem_pick, sem_served, flag_served, serve_sem, serve_sem_at, serve_sem_of, serve_flag, serve_flag_at, serve_flag_of, first_served, or_else, serve_sem_flag}
-use Rattle.kernel_model.specs.Settle.{settle}
 use Rattle.kernel_model.specs.State.{State, state_start}
 use Rattle.kernel_model.specs.Step.{done_at, paced, step}
 use Rattle.kernel_model.specs.Trace.{start, state_after}
@@ -143,8 +140,8 @@ unfolding state_start
 start_up_to_date script t =
     let slot = boot_slot script.boot.priority in
     let is : IsUpToDate t (state_start script).base =
-        entry_each (λ u now. current_in now ≡ base_in now) no_slots 1 slot (entry_same (λ now. current_in now ≡ base_in now) no_slots 1 slot refl refl)
-        (λ u apart. ap current_in (none_there 256 u) ∙ sym (ap base_in (none_there 256 u))) t in
+    entry_each (λ u now. current_in now ≡ base_in now) no_slots 1 slot (entry_same (λ now. current_in now ≡ base_in now) no_slots 1 slot refl refl)
+    (λ u apart. ap current_in (none_there 256 u) ∙ sym (ap base_in (none_there 256 u))) t in
     start_keeps (λ b s. IsUpToDate t b) script is (λ cur. is)
 
 -- in every state that a run reaches each task's current priority is that of its definition

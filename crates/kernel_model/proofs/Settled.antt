@@ -1,6 +1,6 @@
 -- What settling comes to: no waiter is left that can be served, and each task's current priority is that of its definition.
 -- Each serving ends a wait, taking over a changed priority ends and begins none, and no more tasks wait than have a slot.
-use Rattle.std.proofs.Common.{◌≡◌, ℕ, suc, zero, ◌+◌, ◌≤◌, ◌<◌, Bool, true, false, List, [], ◌∷◌, Option, Some, None, length, drop, refl, cond, ◌∙◌, ap, sym, subst, arith, ◌⊎◌, inl, inr}
+use Rattle.std.proofs.Common.{◌≡◌, ℕ, suc, zero, ◌+◌, ◌≤◌, Bool, true, false, List, [], ◌∷◌, Option, Some, None, length, drop, refl, cond, ◌∙◌, ap, sym, subst, arith, ◌⊎◌, inl, inr}
 use Rattle.std.specs.Prelude.{count_by, fold, slice_set}
 use Rattle.std.specs.Bool.{◌==◌}
 use Rattle.std.specs.Option.{option_map}
@@ -16,10 +16,10 @@ use Rattle.kernel_model.specs.SemFlags.{SemFlags, SemFlagParts, serve_sem_flag}
 use Rattle.kernel_model.specs.Settle.{refreshed, served_within, settle}
 use Rattle.kernel_model.specs.State.{State}
 use Rattle.kernel_model.specs.Waiters.{waiting_count}
-use Rattle.kernel_model.proofs.Releases.{count_cons, release_ends_one, release_others}
+use Rattle.kernel_model.proofs.Releases.{count_cons, release_ends_one}
 use Rattle.kernel_model.proofs.Served.{IsServing, next_served, resettle_keeps, served_keeps, serving, with_parts}
 use Rattle.kernel_model.proofs.Serving.{waits_for_waits}
-use Rattle.kernel_model.proofs.Tables.{entry_cases, entry_each, entry_other, entry_same, entry_split, entry_there}
+use Rattle.kernel_model.proofs.Tables.{entry_cases, entry_each, entry_same, entry_split}
 
 -- ---- how many tasks wait
 

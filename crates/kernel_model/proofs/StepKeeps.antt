@@ -1,7 +1,7 @@
 -- What a step keeps. Where something survives every call, every end of a wait, and the little that ticks and dispatching
 -- change, it survives what is done at a step, all that follows, and the step as a whole. A call may need more to be so
 -- before it than what is kept: that is a premise of the step.
-use Rattle.std.proofs.Common.{◌≡◌, ℕ, suc, zero, ◌+◌, ◌-◌, Bool, true, false, cond, List, [], ◌∷◌, Option, Some, None, ℤ, pos}
+use Rattle.std.proofs.Common.{ℕ, suc, zero, ◌+◌, ◌-◌, Bool, true, false, cond, List, [], ◌∷◌, Option, Some, None, ℤ, pos}
 use Rattle.std.specs.Bool.{◌==◌}
 use Rattle.std.specs.Prelude.{length, unwrap_or, slice_set, slice_index}
 use Rattle.std.specs.Ordering.{int_eq}

@@ -1,41 +1,22 @@
 -- Every step leaves the tasks that wait in the order of what they wait for: each waits for an object that there is, and
 -- queues as that object says.
-use Rattle.std.proofs.Common.{◌≡◌, ℕ, suc, zero, ◌+◌, ◌-◌, Bool, true, false, cond, List, [], ◌∷◌, Option, Some, None, refl, sym, subst, ℤ, pos}
-use Rattle.std.specs.Bool.{◌==◌}
-use Rattle.std.specs.Prelude.{length, unwrap_or, slice_set, slice_index, replicate}
-use Rattle.std.specs.Ordering.{int_eq}
+use Rattle.std.proofs.Common.{◌≡◌, ℕ, suc, zero, Option, Some, None, refl, sym, subst}
+use Rattle.std.specs.Prelude.{replicate}
 use Rattle.tk_types.specs.declared.script.Script.{Script}
 use Rattle.tk_types.specs.declared.task.Task.{Task}
 use Rattle.tk_types.specs.declared.task.Order.TheVariants.{Fifo}
 use Rattle.tk_types.specs.declared.task.Phase.TheVariants.{Ready}
-use Rattle.tk_types.specs.declared.task.Release.{Release}
 use Rattle.tk_types.specs.declared.task.Event.{Event as DueKind}
-use Rattle.tk_types.specs.declared.task.Event.TheVariants as kinds
-use Rattle.tk_types.specs.declared.answer.Who.TheVariants as whos
-use Rattle.tk_types.specs.declared.answer.Outcome.{Outcome}
-use Rattle.tk_types.specs.declared.answer.Outcome.TheVariants as outcomes
-use Rattle.tk_types.specs.declared.calls.Call.{Call}
-use Rattle.tk_types.specs.declared.calls.Call.TheVariants as calls
-use Rattle.tk_types.specs.declared.calls.TaskCall.{TaskCall}
-use Rattle.tk_types.specs.declared.calls.TaskCall.TheVariants as call
-use Rattle.tk_types.specs.declared.run.Act.{Act}
-use Rattle.tk_types.specs.declared.run.Act.TheVariants as acts
-use Rattle.kernel_model.specs.Checks.{natural, within}
 use Rattle.kernel_model.specs.Orders.{entry}
-use Rattle.kernel_model.specs.Views.{is_current}
-use Rattle.kernel_model.specs.Base.{Base, task_at, waits_for, waiting_in, waits_in, base_start, chosen, current, take_due, advance, release, set_current}
-use Rattle.kernel_model.specs.Events.{due_event}
+use Rattle.kernel_model.specs.Base.{Base, base_start, release, set_current}
 use Rattle.kernel_model.specs.Priority.{current_of}
 use Rattle.kernel_model.specs.SemFlags.{SemFlags, SemFlagParts}
-use Rattle.kernel_model.specs.Statements.{fetch, give, start_frame}
-use Rattle.kernel_model.specs.State.{State, frame_of, with_frame, state_start}
-use Rattle.kernel_model.specs.Settle.{settle, follow_release, follow_each, with_releases, turned, dispatched, followed}
-use Rattle.kernel_model.specs.Calls.{family_call, answered, noted, begun, called, with_start}
-use Rattle.kernel_model.specs.Ticks.{fallen, due_done, limit_answer, tick}
-use Rattle.kernel_model.specs.Step.{acted, ran, is_paced, paced, has_tick, ran_or_idle, done_if, done_at, worked, counted, is_quiet, stepped_if, step}
+use Rattle.kernel_model.specs.State.{State, state_start}
+use Rattle.kernel_model.specs.Settle.{settle}
+use Rattle.kernel_model.specs.Ticks.{fallen}
+use Rattle.kernel_model.specs.Step.{done_at, step}
 use Rattle.kernel_model.specs.Trace.{start}
 use Rattle.kernel_model.specs.Waits.{FitsRow, HavePlaces, IsOrderly, order_for}
-use Rattle.kernel_model.proofs.Counts.{state_if}
 use Rattle.kernel_model.proofs.FamilyOrders.{family_fits, right_same}
 use Rattle.kernel_model.proofs.Served.{IsServing}
 use Rattle.kernel_model.proofs.StepKeeps.{IsKept, kept_settle, kept_fallen, kept_done, kept_step, start_keeps}

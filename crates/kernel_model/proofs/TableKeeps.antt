@@ -1,11 +1,10 @@
 -- What survives the writing of any slot of the table of tasks survives every move and every call, and so every step. The
 -- number of slots does: the table has 256 in every state of a run.
-use Rattle.std.proofs.Common.{◌≡◌, ℕ, suc, zero, ◌+◌, ◌-◌, Bool, true, false, cond, List, [], ◌∷◌, Option, Some, None, refl, ◌∙◌, sym, subst, ℤ, pos, negsuc}
+use Rattle.std.proofs.Common.{◌≡◌, ℕ, suc, zero, ◌+◌, ◌-◌, Bool, true, false, cond, List, [], ◌∷◌, Option, Some, None, ◌∙◌, sym, subst, ℤ, pos, negsuc}
 use Rattle.std.specs.Bool.{◌==◌}
 use Rattle.std.specs.Prelude.{length, slice_set}
 use Rattle.std.specs.Ordering.{int_eq}
 use Rattle.std.proofs.lemmas.List.{length-set}
-use Rattle.tk_types.specs.declared.script.Script.{Script}
 use Rattle.tk_types.specs.declared.task.Task.{Task}
 use Rattle.tk_types.specs.declared.task.Order.{Order}
 use Rattle.tk_types.specs.declared.task.Order.TheVariants.{Fifo}
@@ -28,7 +27,7 @@ use Rattle.kernel_model.specs.Priority.{current_of}
 use Rattle.kernel_model.specs.SemFlags.{SemFlags, SemFlagParts, sem_at, flag_at, sem_object, flag_object, has_bits}
 use Rattle.kernel_model.specs.SemFlagCalls
 use Rattle.kernel_model.specs.SemFlagCalls.{SemFlagDone, sem_flag_checked, sem_flag_call, create_sem, create_flag, delete_sem, delete_flag, signal_sem, set_flag, clear_flag, refer_sem, refer_flag, wait_sem, wait_flag, first_ended, end_first, sem_waits_ended, flag_waits_ended, serves_at_once, waits_or_ends, waited_for_sem, waited_for_flag}
-use Rattle.kernel_model.specs.TaskCalls.{TaskDone, checked, finished, task_call, create_task, delete_task, start_task, exit_task, terminate_task, change_priority, rotate_ready, get_task, refer_task, sleep, delay, wake_up, cancel_wakeups, release_wait, suspend_task, resume_task, create_checks, delete_checks, start_checks, terminate_checks, change_checks, named_checks, waiting_checks, wake_up_checks, cancel_checks, release_checks, suspend_checks, resume_checks, slept, delayed, woken, rebased, new_base, named, rotated_priority, shown, enabled_after, caller, sleep_object, delay_object}
+use Rattle.kernel_model.specs.TaskCalls.{TaskDone, finished, task_call, create_task, delete_task, start_task, exit_task, terminate_task, change_priority, rotate_ready, get_task, refer_task, sleep, delay, wake_up, cancel_wakeups, release_wait, suspend_task, resume_task, create_checks, delete_checks, start_checks, terminate_checks, change_checks, named_checks, waiting_checks, wake_up_checks, cancel_checks, release_checks, suspend_checks, resume_checks, slept, delayed, woken, rebased, new_base, named, rotated_priority, shown, enabled_after, caller, sleep_object, delay_object}
 use Rattle.kernel_model.proofs.Checked.{sem_flag_cases}
 use Rattle.kernel_model.proofs.Counts.{if_cases, checked_cases}
 use Rattle.kernel_model.proofs.Served.{IsServing}
