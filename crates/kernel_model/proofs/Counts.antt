@@ -1,7 +1,7 @@
 -- A step makes one event at most, and one tick at most passes or becomes pending at it.
 use Rattle.std.proofs.Common.{◌≡◌, ℕ, suc, zero, ◌+◌, ◌-◌, ◌≤◌, ◌<◌, Bool, true, false, cond, List, [], ◌∷◌, Option, Some, None, refl, ap, sym, subst, arith, ℤ, pos, negsuc}
 use Rattle.std.specs.Bool.{◌==◌}
-use Rattle.std.specs.Prelude.{fold, drop, length, unwrap_or, slice_set, slice_index}
+use Rattle.std.specs.Prelude.{length, unwrap_or, slice_set, slice_index}
 use Rattle.std.specs.Ordering.{int_eq}
 use Rattle.std.proofs.lemmas.Bool.Decides.{nat_tests}
 use Rattle.tk_types.specs.declared.script.Script.{Script}
@@ -31,7 +31,7 @@ use Rattle.tk_types.specs.declared.error_code.Er.TheVariants as er
 use Rattle.tk_types.specs.declared.task.Phase.TheVariants.{Dormant, Ready, Waiting}
 use Rattle.kernel_model.specs.Base.{Base, queue, task_at, with_entry, with_task, limited, current, chosen, free_task, has_room, is_waiting_phase, back_unless_suspended, recorded, wakeups_of, waits_for, gone, drop_wait, take_due, advance, take_bytes, create, delete, make_ready, make_wait, make_dormant, release, suspend, resume, resumed, set_base, set_current, set_wakeups, rotate}
 use Rattle.kernel_model.specs.Events.{due_event}
-use Rattle.kernel_model.specs.Priority.{refresh, resettle, taken_from, current_of}
+use Rattle.kernel_model.specs.Priority.{current_of}
 use Rattle.kernel_model.specs.TaskCalls.{TaskDone, checked, unless_error, finished, task_call, create_task, delete_task, start_task, exit_task, terminate_task, change_priority, rotate_ready, get_task, refer_task, sleep, delay, wake_up, cancel_wakeups, release_wait, suspend_task, resume_task, create_checks, delete_checks, start_checks, terminate_checks, change_checks, named_checks, waiting_checks, wake_up_checks, cancel_checks, release_checks, suspend_checks, resume_checks, slept, delayed, woken, rebased, new_base, named, rotated_priority, shown, enabled_after, caller, sleep_object, delay_object}
 use Rattle.kernel_model.specs.Statements.{fetch, give, start_frame}
 use Rattle.kernel_model.specs.State.{State, frame_of, with_frame, state_start}

@@ -1,21 +1,18 @@
 -- Every call on semaphores and event flags leaves the tasks that wait in the order of what they wait for. One that is
 -- made had nobody who waited for it; and when one is deleted, all waits for it have ended.
-use Rattle.std.proofs.Common.{◌≡◌, ℕ, suc, zero, ◌+◌, ◌-◌, ◌≤◌, ◌<◌, Bool, true, false, not, ◌&&◌, cond, List, [], ◌∷◌, ◌++◌, Option, Some, None, length, drop, refl, ◌∙◌, ap, sym, subst, arith, ℤ, pos, negsuc, ◌⊎◌, inl, inr}
-use Rattle.std.specs.Prelude.{nat_le, nat_lt, int_le, slice_get, slice_set, bit_and, bit_or}
+use Rattle.std.proofs.Common.{◌≡◌, ℕ, suc, zero, ◌+◌, ◌-◌, ◌≤◌, Bool, true, false, not, ◌&&◌, cond, List, [], ◌∷◌, Option, Some, None, length, drop, refl, ◌∙◌, ap, sym, subst, arith, ℤ, pos, negsuc, ◌⊎◌, inl, inr}
+use Rattle.std.specs.Prelude.{nat_le, nat_lt, int_le, bit_and, bit_or}
 use Rattle.std.specs.Bool.{◌==◌}
 use Rattle.std.specs.List.{filter}
 use Rattle.std.specs.Int.{w32, cast_unsigned}
-use Rattle.std.specs.Option.{option_map, option_flatten}
+use Rattle.std.specs.Option.{option_map}
 use Rattle.std.specs.Ordering.{int_eq}
 use Rattle.std.proofs.lemmas.Bool.Decides.{nat_tests}
 use Rattle.tk_types.specs.declared.answer.Answer.{Answer}
 use Rattle.tk_types.specs.declared.answer.Who.{Who}
-use Rattle.tk_types.specs.declared.answer.Outcome.TheVariants.{Blocked, Returned}
-use Rattle.tk_types.specs.declared.error_code.Er.{Er}
 use Rattle.tk_types.specs.declared.error_code.Er.TheVariants as er
 use Rattle.tk_types.specs.declared.calls.SemFlagCall.{SemFlagCall}
 use Rattle.tk_types.specs.declared.calls.SemFlagCall.TheVariants as call
-use Rattle.tk_types.specs.declared.modes.FlagMode.{FlagMode}
 use Rattle.tk_types.specs.declared.task.Task.{Task}
 use Rattle.tk_types.specs.declared.task.Phase.{Phase}
 use Rattle.tk_types.specs.declared.task.Phase.TheVariants.{Dormant, Ready, Waiting}
@@ -27,22 +24,22 @@ use Rattle.kernel_model.specs.declared.objects.EventFlag.{EventFlag}
 use Rattle.kernel_model.specs.declared.objects.FlagWish.{FlagWish}
 use Rattle.kernel_model.specs.Once.{times}
 use Rattle.kernel_model.specs.Orders.{entry, free_from, to_back, without}
-use Rattle.kernel_model.specs.Checks.{Check, first_error, natural, within, plain, failed, done}
-use Rattle.kernel_model.specs.Base.{Base, task_at, waiting_in, waits_for, waits_in, waits_somewhere, is_waiting_phase, make_wait, queue, release, back_unless_suspended}
-use Rattle.kernel_model.specs.SemFlags.{SemFlags, sem_at, flag_at, sem_object, flag_object, with_sem, with_flag, has_bits, flag_answer, taken_from_sem, cleared_flag}
+use Rattle.kernel_model.specs.Checks.{Check, first_error, natural, within, plain, done}
+use Rattle.kernel_model.specs.Base.{Base, task_at, waiting_in, waits_for, waits_in, waits_somewhere, is_waiting_phase, queue, release}
+use Rattle.kernel_model.specs.SemFlags.{SemFlags, sem_at, flag_at, sem_object, flag_object, with_sem, with_flag, has_bits, taken_from_sem, cleared_flag}
 use Rattle.kernel_model.specs.SemFlagCalls
 use Rattle.kernel_model.specs.SemFlagCalls.{SemFlagDone, refused_with, sem_flag_checked, sem_flag_call, create_sem, create_flag, delete_sem, delete_flag, signal_sem, set_flag, clear_flag, refer_sem, refer_flag, wait_sem, wait_flag, free_sem, free_flag, first_ended, end_first, end_waits, sem_waits_ended, flag_waits_ended, signalled, repatterned, serves_at_once, waits_or_ends, waited_for_sem, waited_for_flag}
 use Rattle.kernel_model.specs.Queues.{AreOfOrder, queue_in}
 use Rattle.kernel_model.specs.Waits.{FitsPhase, FitsRow, HavePlaces, IsOrderly, order_for}
 use Rattle.kernel_model.proofs.Checked.{sem_flag_cases, holds_at}
-use Rattle.kernel_model.proofs.Once.{times_append, times_without}
+use Rattle.kernel_model.proofs.Once.{times_append}
 use Rattle.kernel_model.proofs.Queues.{queue_release}
 use Rattle.kernel_model.proofs.ReadyLists.{times_filter_is}
 use Rattle.kernel_model.proofs.Releases.{release_others, release_over}
 use Rattle.kernel_model.proofs.Serving.{waits_for_waits}
 use Rattle.kernel_model.proofs.Served.{sem_orders, flag_orders}
 use Rattle.kernel_model.proofs.Sorting.{times_sort}
-use Rattle.kernel_model.proofs.Tables.{entry_cases, entry_each, entry_same, entry_split}
+use Rattle.kernel_model.proofs.Tables.{entry_cases, entry_each}
 use Rattle.kernel_model.proofs.WaitOrders.{AreRight, Orders, release_fits, wait_fits}
 
 -- ---- other orders

@@ -4,6 +4,8 @@ pub mod Once
 pub mod Counts
 pub mod WaitOrders
 pub mod FamilyOrders
+pub mod StepKeeps
+pub mod TableKeeps
 pub mod StepOrders
 pub mod Sorting
 pub mod ReadyLists
@@ -26,3 +28,5 @@ pub mod Serving
 pub mod Trial
 pub mod Served
 pub mod FamilyPlaces
+pub mod Settled
+pub mod Reached

@@ -72,7 +72,7 @@ release_over b t result = entry_split (λ c. is_waiting c t ≡ false) (task_at 
 abbrev as_number : Bool → ℕ
 as_number test = cond test 1 0
 
-count_cons : (x : Option Task) (xs : List (Option Task)) → count_by waits_somewhere (x ∷ xs) ≡ as_number (waits_somewhere x) + count_by waits_somewhere xs
+pub count_cons : (x : Option Task) (xs : List (Option Task)) → count_by waits_somewhere (x ∷ xs) ≡ as_number (waits_somewhere x) + count_by waits_somewhere xs
 count_cons x xs = sum_by-cons (λ slot. as_number (waits_somewhere slot)) x xs
 
 one_fewer : (xs : List (Option Task)) (t : ℕ) (o : Option Task) → waits_somewhere (entry xs t) ≡ true → waits_somewhere o ≡ false → count_by waits_somewhere xs ≡ count_by waits_somewhere (slice_set xs t o) + 1

@@ -1,8 +1,8 @@
 -- What a serving is: the wait of one task ends that waits for a semaphore or an event flag, and the table changes in no
 -- order of a queue. So what holds through any end of such a wait, and through the change of any priority, holds
 -- through settling.
-use Rattle.std.proofs.Common.{◌≡◌, ℕ, suc, zero, ◌+◌, ◌-◌, ◌≤◌, ◌<◌, Bool, true, false, List, [], ◌∷◌, Option, Some, None, drop, refl, cond, ◌∙◌, ap, sym, subst, ◌&&◌, arith}
-use Rattle.std.specs.Prelude.{fold, nat_le, nat_lt, slice_set, if◌then◌else◌}
+use Rattle.std.proofs.Common.{◌≡◌, ℕ, suc, zero, ◌+◌, ◌-◌, ◌≤◌, Bool, true, false, List, [], ◌∷◌, Option, Some, None, drop, refl, cond, ◌∙◌, ap, sym, subst, ◌&&◌, arith}
+use Rattle.std.specs.Prelude.{fold, nat_le, nat_lt}
 use Rattle.std.specs.Bool.{◌==◌}
 use Rattle.std.specs.Option.{option_map}
 use Rattle.tk_types.specs.declared.answer.Answer.{Answer}
@@ -14,7 +14,7 @@ use Rattle.kernel_model.specs.Base.{Base, current, set_current, waits_for, relea
 use Rattle.kernel_model.specs.Priority.{current_of, refresh, taken_from, resettle}
 use Rattle.kernel_model.specs.SemFlags.{SemFlags, SemFlagParts, sem_at, flag_at, sem_object, flag_object, with_sem, with_flag, sem_served, flag_served, serve_sem, serve_sem_at, serve_sem_of, serve_flag, serve_flag_at, serve_flag_of, first_served, or_else, serve_sem_flag}
 use Rattle.kernel_model.specs.State.{State}
-use Rattle.kernel_model.specs.Settle.{refreshed, serve_first, served_within, settle}
+use Rattle.kernel_model.specs.Settle.{refreshed, served_within, settle}
 use Rattle.kernel_model.specs.Waits.{order_for}
 use Rattle.kernel_model.proofs.Serving.{sem_served_waits, flag_served_waits}
 use Rattle.kernel_model.proofs.Tables.{entry_each, entry_there}
@@ -178,7 +178,7 @@ next_keeps : (P : Base → SemFlags → Type 0) (left : ℕ) (st : State) (next 
 next_keeps P left st None is has rest serve = has
 next_keeps P left st (Some parts) is has rest serve = rest (refreshed (with_parts st parts)) (serve parts (serving st.base st.sem_flags parts is))
 
-served_keeps : (P : Base → SemFlags → Type 0) → Refreshed P → Served P → (left : ℕ) (st : State) → P st.base st.sem_flags → P (served_within left st).base (served_within left st).sem_flags
+pub served_keeps : (P : Base → SemFlags → Type 0) → Refreshed P → Served P → (left : ℕ) (st : State) → P st.base st.sem_flags → P (served_within left st).base (served_within left st).sem_flags
 unfolding served_within
 served_keeps P refresh serve zero st has = has
 served_keeps P refresh serve (suc left) st has =

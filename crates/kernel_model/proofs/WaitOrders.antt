@@ -1,15 +1,14 @@
 -- Every move and every call on tasks leaves the tasks that wait in the order of what they wait for: a call makes the caller
 -- wait in the queue of those that sleep or of those in a delay, and those are by the beginning of the waits.
-use Rattle.std.proofs.Common.{◌≡◌, ℕ, suc, zero, ◌+◌, ◌-◌, Bool, true, false, cond, List, [], ◌∷◌, Option, Some, None, refl, sym, subst, ℤ, pos, negsuc}
+use Rattle.std.proofs.Common.{◌≡◌, ℕ, suc, zero, ◌+◌, ◌-◌, Bool, true, false, cond, [], ◌∷◌, Option, Some, None, subst, ℤ, pos, negsuc}
 use Rattle.std.specs.Bool.{◌==◌}
-use Rattle.std.specs.Prelude.{fold, drop, length, unwrap_or, slice_set, slice_index, replicate}
+use Rattle.std.specs.Prelude.{slice_set}
 use Rattle.std.specs.Ordering.{int_eq}
 use Rattle.tk_types.specs.declared.task.Task.{Task}
 use Rattle.tk_types.specs.declared.task.Order.{Order}
 use Rattle.tk_types.specs.declared.task.Order.TheVariants.{Fifo}
 use Rattle.tk_types.specs.declared.answer.Who.{Who}
 use Rattle.tk_types.specs.declared.answer.Answer.{Answer}
-use Rattle.tk_types.specs.declared.answer.Outcome.{Outcome}
 use Rattle.tk_types.specs.declared.answer.Outcome.TheVariants as outcomes
 use Rattle.tk_types.specs.declared.calls.TaskCall.{TaskCall}
 use Rattle.tk_types.specs.declared.calls.TaskCall.TheVariants as call
@@ -19,11 +18,10 @@ use Rattle.kernel_model.specs.Views.{is_current}
 use Rattle.tk_types.specs.Codes.{code_of}
 use Rattle.tk_types.specs.declared.error_code.Er.TheVariants as er
 use Rattle.tk_types.specs.declared.task.Phase.TheVariants.{Dormant, Ready, Waiting}
-use Rattle.kernel_model.specs.Base.{Base, task_at, with_task, limited, current, chosen, free_task, has_room, is_waiting_phase, back_unless_suspended, recorded, wakeups_of, waits_for, waiting_in, base_start, gone, drop_wait, take_due, advance, take_bytes, create, delete, make_ready, make_wait, make_dormant, release, suspend, resume, resumed, set_base, set_current, set_wakeups, rotate}
-use Rattle.kernel_model.specs.Priority.{refresh, resettle, taken_from, current_of}
+use Rattle.kernel_model.specs.Base.{Base, task_at, with_task, limited, current, free_task, has_room, is_waiting_phase, back_unless_suspended, recorded, wakeups_of, waits_for, gone, drop_wait, take_bytes, create, delete, make_ready, make_wait, make_dormant, release, suspend, resume, resumed, set_base, set_current, set_wakeups, rotate}
 use Rattle.kernel_model.specs.TaskCalls.{TaskDone, finished, task_call, create_task, delete_task, start_task, exit_task, terminate_task, change_priority, rotate_ready, get_task, refer_task, sleep, delay, wake_up, cancel_wakeups, release_wait, suspend_task, resume_task, create_checks, delete_checks, start_checks, terminate_checks, change_checks, named_checks, waiting_checks, wake_up_checks, cancel_checks, release_checks, suspend_checks, resume_checks, slept, delayed, woken, rebased, new_base, named, rotated_priority, shown, enabled_after, caller, sleep_object, delay_object}
 use Rattle.kernel_model.specs.Waits.{FitsRow}
-use Rattle.kernel_model.proofs.Counts.{if_cases, checked_cases, state_if}
+use Rattle.kernel_model.proofs.Counts.{checked_cases}
 use Rattle.kernel_model.proofs.Tables.{entry_cases, entry_each, entry_same}
 
 -- ---- a slot is written
@@ -161,4 +159,3 @@ call_fits orders own b who (call.FrsmTsk task) all = checked_cases (AreRight ord
 call_fits orders own b who (call.DlyTsk time) all =
     checked_cases (AreRight orders) (waiting_checks b who (pos 0) time) b (delayed b (caller who) time) all
     (done_fits orders (int_eq time (pos 0)) (finished b) (record { base = make_wait b (caller who) delay_object Fifo time; outcome = outcomes.Blocked }) all (wait_fits orders b (caller who) delay_object Fifo time own.delays all))
-

@@ -31,6 +31,11 @@ steps_from script budget (suc left) st =
 unfoldable pub start : Script → Event
 start script = dispatched 0 (state_start script)
 
+-- the state after so many steps from the start
+unfoldable pub state_after : Script → ℕ → ℕ → State
+state_after script budget zero = (start script).state
+state_after script budget (suc n) = (step script budget (state_after script budget n)).state
+
 -- the trace of a script. Without devices both modes give the same.
 unfoldable pub trace : Script → Mode → ℕ → Trace
 trace script mode budget = after (start script).lines (steps_from script budget budget (start script).state)

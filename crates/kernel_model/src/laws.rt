@@ -9,6 +9,7 @@ ghost use Rattle.tk_types.specs.declared.answer.Who.TheVariants as whos;
 ghost use Rattle.tk_types.specs.declared.calls.SemFlagCall.{SemFlagCall};
 ghost use Rattle.tk_types.specs.declared.calls.TaskCall.{TaskCall};
 ghost use Rattle.tk_types.specs.declared.error_code.Er.TheVariants as er;
+ghost use Rattle.tk_types.specs.declared.script.Script.{Script};
 ghost use Rattle.tk_types.specs.declared.task.DueEvent.{DueEvent};
 ghost use Rattle.tk_types.specs.declared.task.Event.TheVariants.{Wait};
 ghost use Rattle.tk_types.specs.declared.task.Order.{Order};
@@ -26,12 +27,13 @@ ghost use Rattle.kernel_model.specs.Precedence.{KeepsPlace, NoneReady, Precedes,
 ghost use Rattle.kernel_model.specs.Priority.{current_of};
 ghost use Rattle.kernel_model.specs.Rising.{IsRisingBy};
 ghost use Rattle.kernel_model.specs.SemFlagCalls.{sem_flag_call, serves_at_once, waited_for_flag, waited_for_sem};
-ghost use Rattle.kernel_model.specs.SemFlags.{SemFlagParts, SemFlags, flag_at, has_bits, sem_at, serve_flag, serve_sem};
+ghost use Rattle.kernel_model.specs.SemFlags.{SemFlagParts, SemFlags, flag_at, has_bits, sem_at, serve_flag, serve_sem, serve_sem_flag};
 ghost use Rattle.kernel_model.specs.Settle.{settle};
 ghost use Rattle.kernel_model.specs.State.{State};
 ghost use Rattle.kernel_model.specs.TaskCalls.{task_call};
 ghost use Rattle.kernel_model.specs.Ticks.{tick_state};
 ghost use Rattle.kernel_model.specs.TimeOrder.{AreDueBy, AreInTimeOrder, AreLater, ComesAfter, after_ticks, after_time};
+ghost use Rattle.kernel_model.specs.Trace.{state_after};
 ghost use Rattle.kernel_model.specs.Trial.{MayWait, flag_trial, sem_trial};
 ghost use Rattle.kernel_model.specs.Waiters.{waiting_count};
 
@@ -176,11 +178,21 @@ pub fn a_time_out_of_zero_changes_nothing()
         waited_for_flag b s t id wish (pos 0) (Some k) ≡ record { base = b; table = s; outcome = failed er.TmOut } }
 {}
 
-/// A serving of a semaphore or of an event flag ends one wait and no more: one task fewer waits than before. So serving
-/// until none can be served, which is what settling does, comes to an end.
+/// After settling nobody can be served: neither a semaphore nor an event flag has a waiter whose wait it could end. That
+/// holds after any settling over a table of up to 256 slots, and in every state that a run reaches, since what follows
+/// settling in a step changes nothing that a serving reads. Each serving ends one wait and no more, so that one task fewer
+/// waits than before, and taking over a changed priority ends and begins none; so as many servings as there are slots are
+/// enough. Each task's current priority is that of its definition then, and in every state that a run reaches; the IDs of
+/// tasks begin at 1.
 pub fn settling_serves_until_none_can_be()
     ensures semaphore { (b : Base) (s : SemFlags) (id : ℕ) (parts : SemFlagParts) → serve_sem b s id ≡ Some parts →
         waiting_count b ≡ waiting_count parts.base + 1 }
     ensures event_flag { (b : Base) (s : SemFlags) (id : ℕ) (parts : SemFlagParts) → serve_flag b s id ≡ Some parts →
         waiting_count b ≡ waiting_count parts.base + 1 }
+    ensures none_left { (st : State) → length st.base.tasks ≤ 256 → serve_sem_flag (settle st).base (settle st).sem_flags ≡ None }
+    ensures priorities { (st : State) (t : ℕ) → 1 ≤ t → current (settle st).base t ≡ current_of (settle st).base t }
+    ensures reached { (script : Script) (budget n : ℕ) →
+        serve_sem_flag (state_after script budget n).base (state_after script budget n).sem_flags ≡ None }
+    ensures reached_priorities { (script : Script) (budget n t : ℕ) → 1 ≤ t →
+        current (state_after script budget n).base t ≡ current_of (state_after script budget n).base t }
 {}

@@ -1,0 +1,164 @@
+-- What settling comes to: no waiter is left that can be served, and each task's current priority is that of its definition.
+-- Each serving ends a wait, taking over a changed priority ends and begins none, and no more tasks wait than have a slot.
+use Rattle.std.proofs.Common.{◌≡◌, ℕ, suc, zero, ◌+◌, ◌≤◌, Bool, true, false, List, [], ◌∷◌, Option, Some, None, length, drop, refl, cond, ◌∙◌, ap, sym, subst, arith, ◌⊎◌, inl, inr}
+use Rattle.std.specs.Prelude.{count_by, fold, slice_set}
+use Rattle.std.specs.Bool.{◌==◌}
+use Rattle.std.specs.Option.{option_map}
+use Rattle.std.proofs.lemmas.Bool.Decides.{nat_tests}
+use Rattle.std.proofs.lemmas.List.Sums.{count_by-le-length}
+use Rattle.tk_types.specs.declared.answer.Answer.{Answer}
+use Rattle.tk_types.specs.declared.task.Task.{Task}
+use Rattle.tk_types.specs.declared.task.Phase.TheVariants.{Ready}
+use Rattle.kernel_model.specs.Orders.{entry}
+use Rattle.kernel_model.specs.Base.{Base, task_at, base_in, base_of, current, current_in, is_waiting_phase, waits_somewhere, release, set_current}
+use Rattle.kernel_model.specs.Priority.{current_of, refresh, resettle, taken_from}
+use Rattle.kernel_model.specs.SemFlags.{SemFlags, SemFlagParts, serve_sem_flag}
+use Rattle.kernel_model.specs.Settle.{refreshed, served_within, settle}
+use Rattle.kernel_model.specs.State.{State}
+use Rattle.kernel_model.specs.Waiters.{waiting_count}
+use Rattle.kernel_model.proofs.Releases.{count_cons, release_ends_one}
+use Rattle.kernel_model.proofs.Served.{IsServing, next_served, resettle_keeps, served_keeps, serving, with_parts}
+use Rattle.kernel_model.proofs.Serving.{waits_for_waits}
+use Rattle.kernel_model.proofs.Tables.{entry_cases, entry_each, entry_same, entry_split}
+
+-- ---- how many tasks wait
+
+-- a row that waits where the one before it did leaves the number of those that wait
+as_many : (xs : List (Option Task)) (t : ℕ) (o : Option Task) → waits_somewhere o ≡ waits_somewhere (entry xs t) → count_by waits_somewhere (slice_set xs t o) ≡ count_by waits_somewhere xs
+as_many [] t o same = refl
+as_many (x ∷ xs) zero o same = count_cons o xs ∙ ap (λ test. cond test 1 0 + count_by waits_somewhere xs) same ∙ sym (count_cons x xs)
+as_many (x ∷ xs) (suc t) o same = count_cons x (slice_set xs t o) ∙ ap (λ n. cond (waits_somewhere x) 1 0 + n) (as_many xs t o same) ∙ sym (count_cons x xs)
+
+-- a changed priority leaves who waits
+current_as_many : (b : Base) (t priority : ℕ) → waiting_count (set_current b t priority) ≡ waiting_count b
+current_as_many b t priority = entry_cases (λ c. waiting_count c ≡ waiting_count b) (task_at b t) b _ refl
+    (λ k at. as_many b.tasks t (Some (record k { current = priority })) (ap waits_somewhere (sym at)))
+
+resettled_as_many : (b : Base) (s : SemFlags) → waiting_count (resettle b) ≡ waiting_count b
+resettled_as_many b s = resettle_keeps (λ c s. waiting_count c ≡ waiting_count b) (λ c s t changed same. current_as_many c t (current_of c t) ∙ same) b s refl
+
+-- a serving ends one wait
+serving_ends_one : (b : Base) (s : SemFlags) (parts : SemFlagParts) → IsServing b s parts → waiting_count b ≡ waiting_count parts.base + 1
+serving_ends_one b s parts is = release_ends_one b is.task is.answer (waits_for_waits b is.task is.object is.waits) ∙ ap (λ c. waiting_count c + 1) (sym is.ends)
+
+-- ---- none is left
+
+-- nobody can be served
+abbrev pub IsUnserved : Base → SemFlags → Type 0
+IsUnserved b s = serve_sem_flag b s ≡ None
+
+none_waiting : (b : Base) (s : SemFlags) (next : Option SemFlagParts) → serve_sem_flag b s ≡ next → waiting_count b ≤ 0 → IsUnserved b s
+none_waiting b s None is none = is
+none_waiting b s (Some parts) is none = let fewer = serving_ends_one b s parts (serving b s parts is) in absurd (omega (arith, fewer, none))
+
+unserved_next : (left : ℕ) (st : State) (next : Option SemFlagParts) → serve_sem_flag st.base st.sem_flags ≡ next → waiting_count st.base ≤ suc left →
+    ((later : State) → waiting_count later.base ≤ left → IsUnserved (served_within left later).base (served_within left later).sem_flags) →
+    IsUnserved (next_served left st (option_map (with_parts st) next)).base (next_served left st (option_map (with_parts st) next)).sem_flags
+unserved_next left st None is most rest = is
+unserved_next left st (Some parts) is most rest =
+    let fewer = serving_ends_one st.base st.sem_flags parts (serving st.base st.sem_flags parts is) in
+    let same = resettled_as_many parts.base parts.table in
+    rest (refreshed (with_parts st parts)) (omega (arith, fewer, same, most))
+
+-- with a serving for each task that waits none is left that can be served
+served_unserved : (left : ℕ) (st : State) → waiting_count st.base ≤ left → IsUnserved (served_within left st).base (served_within left st).sem_flags
+unfolding served_within
+served_unserved zero st most = none_waiting st.base st.sem_flags (serve_sem_flag st.base st.sem_flags) refl most
+served_unserved (suc left) st most = unserved_next left st (serve_sem_flag st.base st.sem_flags) refl most (served_unserved left)
+
+-- once a state has settled, nobody can be served
+pub settle_unserved : (st : State) → length st.base.tasks ≤ 256 → serve_sem_flag (settle st).base (settle st).sem_flags ≡ None
+unfolding settle
+settle_unserved st slots =
+    let most = count_by-le-length waits_somewhere st.base.tasks in
+    let same = resettled_as_many st.base st.sem_flags in
+    served_unserved 256 (refreshed st) (omega (arith, most, same, slots))
+
+-- ---- the priorities
+
+-- a task's current priority is that of its definition
+abbrev pub IsUpToDate : ℕ → Base → Type 0
+IsUpToDate t b = current b t ≡ current_of b t
+
+-- the same of its row
+abbrev FitsBase : Option Task → Type 0
+FitsBase o = current_in o ≡ base_in o
+
+-- the change of a priority brings its task up to date, and leaves the others
+current_up_to_date : (b : Base) (t u : ℕ) → IsUpToDate u b → IsUpToDate u (set_current b t (current_of b t))
+current_up_to_date b t u is = entry_cases (IsUpToDate u) (task_at b t) b _ is
+    (λ k at. entry_each (λ v now. v ≡ u → FitsBase now) b.tasks t (Some (record k { current = base_of b t }))
+    (λ same. entry_same FitsBase b.tasks t (Some (record k { current = base_of b t })) (ap base_in at) refl)
+    (λ v apart same. subst (λ (w : ℕ). FitsBase (task_at b w)) (sym same) is) u refl)
+
+current_own : (b : Base) (t : ℕ) → IsUpToDate t (set_current b t (current_of b t))
+current_own b t = entry_split (IsUpToDate t) (task_at b t) b _ (λ none. ap current_in none ∙ sym (ap base_in none))
+    (λ k at. entry_same FitsBase b.tasks t (Some (record k { current = base_of b t })) (ap base_in at) refl)
+
+own_if : (b : Base) (t : ℕ) (same : Bool) → (current b t == current_of b t) ≡ same → IsUpToDate t (cond same b (set_current b t (current_of b t)))
+own_if b t true is = grind (arith, nat_tests, is)
+own_if b t false is = current_own b t
+
+others_if : (b : Base) (t u : ℕ) (same : Bool) → IsUpToDate u b → IsUpToDate u (cond same b (set_current b t (current_of b t)))
+others_if b t u true is = is
+others_if b t u false is = current_up_to_date b t u is
+
+-- a task stands among these
+abbrev Stands : ℕ → List ℕ → Type 0
+Stands t [] = ⊥
+Stands t (first ∷ ids) = (first ≡ t) ⊎ Stands t ids
+
+-- one that is up to date stays so, and one that is brought up to date is so then
+each_up_to_date : (t : ℕ) (ids : List ℕ) (b : Base) → IsUpToDate t b ⊎ Stands t ids → IsUpToDate t (fold refresh b ids)
+each_up_to_date t [] b (inl is) = is
+each_up_to_date t [] b (inr stands) = absurd stands
+each_up_to_date t (first ∷ ids) b (inl is) = each_up_to_date t ids (refresh b first) (inl (others_if b first t (current b first == current_of b first) is))
+each_up_to_date t (first ∷ ids) b (inr (inl same)) =
+    each_up_to_date t ids (refresh b first) (inl (subst (λ (u : ℕ). IsUpToDate u (refresh b first)) same (own_if b first (current b first == current_of b first) refl)))
+each_up_to_date t (first ∷ ids) b (inr (inr stands)) = each_up_to_date t ids (refresh b first) (inr stands)
+
+-- a slot is free, or its ID is one of those that are taken
+free_or_stands : {A : Type 0} → (from place : ℕ) (slots : List (Option A)) → (entry slots place ≡ None) ⊎ Stands (from + place) (taken_from from slots)
+free_or_stands from place [] = inl refl
+free_or_stands from zero (None ∷ slots) = inl refl
+free_or_stands from (suc place) (None ∷ slots) = let next : from + 1 + place ≡ from + suc place = omega arith in subst (λ (t : ℕ). (entry slots place ≡ None) ⊎ Stands t (taken_from (from + 1) slots)) next (free_or_stands (from + 1) place slots)
+free_or_stands from zero (Some k ∷ slots) = inr (inl (omega arith))
+free_or_stands from (suc place) (Some k ∷ slots) = behind (let next : from + 1 + place ≡ from + suc place = omega arith in subst (λ (t : ℕ). (entry slots place ≡ None) ⊎ Stands t (taken_from (from + 1) slots)) next (free_or_stands (from + 1) place slots))
+  where
+    behind : (entry slots place ≡ None) ⊎ Stands (from + suc place) (taken_from (from + 1) slots) → (entry slots place ≡ None) ⊎ ((from ≡ from + suc place) ⊎ Stands (from + suc place) (taken_from (from + 1) slots))
+    behind (inl free) = inl free
+    behind (inr stands) = inr (inr stands)
+
+in_table : {A : Type 0} → (t : ℕ) (tasks : List (Option A)) → 1 ≤ t → (entry tasks t ≡ None) ⊎ Stands t (taken_from 1 (drop 1 tasks))
+in_table t [] one = inl refl
+in_table zero (slot ∷ tasks) one = absurd (omega (arith, one))
+in_table (suc place) (slot ∷ tasks) one = let next : 1 + place ≡ suc place = omega arith in subst (λ (t : ℕ). (entry tasks place ≡ None) ⊎ Stands t (taken_from 1 tasks)) next (free_or_stands 1 place tasks)
+
+free_up_to_date : (b : Base) (t : ℕ) (ids : List ℕ) → (task_at b t ≡ None) ⊎ Stands t ids → IsUpToDate t b ⊎ Stands t ids
+free_up_to_date b t ids (inl free) = inl (ap current_in free ∙ sym (ap base_in free))
+free_up_to_date b t ids (inr stands) = inr stands
+
+resettled_up_to_date : (b : Base) (t : ℕ) → 1 ≤ t → IsUpToDate t (resettle b)
+unfolding resettle
+resettled_up_to_date b t one = let ids : List ℕ = taken_from 1 (drop 1 b.tasks) in each_up_to_date t ids b (free_up_to_date b t ids (in_table t b.tasks one))
+
+-- the end of a wait changes no priority
+released_up_to_date : (b : Base) (t u : ℕ) (answer : Answer) → IsUpToDate u b → IsUpToDate u (release b t answer)
+released_up_to_date b t u answer is = entry_cases (IsUpToDate u) (task_at b t) b _ is
+    (λ k at. if_waits b k _ (is_waiting_phase k.phase) is
+    (entry_each (λ v now. v ≡ u → FitsBase now) b.tasks t (Some (record k { phase = Ready }))
+    (λ same. entry_same FitsBase b.tasks t (Some (record k { phase = Ready })) (ap current_in (sym at) ∙ subst (λ (w : ℕ). FitsBase (task_at b w)) (sym same) is ∙ ap base_in at) refl)
+    (λ v apart same. subst (λ (w : ℕ). FitsBase (task_at b w)) (sym same) is) u refl))
+  where
+    if_waits : (b : Base) (k : Task) (c : Base) (waits : Bool) → IsUpToDate u b → IsUpToDate u c → IsUpToDate u (cond waits c b)
+    if_waits b k c true idle over = over
+    if_waits b k c false idle over = idle
+
+serving_up_to_date : (t : ℕ) (b : Base) (s : SemFlags) (parts : SemFlagParts) → IsServing b s parts → IsUpToDate t b → IsUpToDate t parts.base
+serving_up_to_date t b s parts served is = subst (IsUpToDate t) (sym served.ends) (released_up_to_date b served.task t served.answer is)
+
+-- once a state has settled, each task's current priority is that of its definition
+pub settle_up_to_date : (st : State) (t : ℕ) → 1 ≤ t → current (settle st).base t ≡ current_of (settle st).base t
+unfolding settle
+settle_up_to_date st t one =
+    served_keeps (λ b s. IsUpToDate t b) (λ b s u changed is. current_up_to_date b u t is) (serving_up_to_date t) 256 (refreshed st) (resettled_up_to_date st.base t one)
