@@ -26,7 +26,7 @@ use Rattle.kernel_model.proofs.Tables.{entry_same, itself}
 use Rattle.kernel_model.proofs.Sorting.{not_here}
 use Rattle.kernel_model.proofs.Filters.{filter_absent}
 use Rattle.kernel_model.proofs.Once.{times_append}
-use Rattle.kernel_model.proofs.StepOrders.{none_there}
+use Rattle.kernel_model.proofs.Tables.{none_there}
 use Rattle.kernel_base.specs.Waiting.{AreWaits, IsQueue, IsWaiter, MayQueue, most_objects, phase_in, priority_at, queued_in, restamped, restamped_by, rewaited, waiter_at, waits_at}
 use Rattle.kernel_base.proofs.WaitLists.{AllQueue, all_queued, fifo_alike, not_queued, queued_alike, queued_either, queued_joined, queued_left, same_id, times_other}
 use Rattle.kernel_base.proofs.WaiterLists.{all_waiters, each_of_queues, noted_stand, queue_without, reordered_noted, rewaited_elsewhere, rewaited_queue}

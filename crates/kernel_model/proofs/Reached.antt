@@ -18,7 +18,7 @@ use Rattle.kernel_model.specs.Trace.{start, state_after}
 use Rattle.std.specs.List.{find}
 use Rattle.kernel_model.proofs.Settled.{IsUnserved, IsUpToDate, settle_unserved, settle_up_to_date}
 use Rattle.kernel_model.proofs.StepKeeps.{kept_first, kept_step, settled_keeps, start_keeps, worked_keeps}
-use Rattle.kernel_model.proofs.StepOrders.{none_there}
+use Rattle.kernel_model.proofs.Tables.{none_there}
 use Rattle.kernel_model.proofs.TableKeeps.{HasSlots, slots_kept}
 use Rattle.kernel_model.proofs.Tables.{entry_each, entry_same}
 

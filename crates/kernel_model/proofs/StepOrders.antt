@@ -14,13 +14,13 @@ use Rattle.kernel_model.specs.SemFlags.{SemFlags, SemFlagParts}
 use Rattle.kernel_model.specs.State.{State, state_start}
 use Rattle.kernel_model.specs.Settle.{settle}
 use Rattle.kernel_model.specs.Ticks.{fallen}
-use Rattle.kernel_model.specs.Step.{done_at, step}
+use Rattle.kernel_model.specs.Step.{done_at, paced, worked}
 use Rattle.kernel_model.specs.Trace.{start}
 use Rattle.kernel_model.specs.Waits.{FitsRow, HavePlaces, IsOrderly, order_for}
 use Rattle.kernel_model.proofs.FamilyOrders.{family_fits, right_same}
 use Rattle.kernel_model.proofs.Served.{IsServing}
-use Rattle.kernel_model.proofs.StepKeeps.{IsKept, kept_settle, kept_fallen, kept_done, kept_step, start_keeps}
-use Rattle.kernel_model.proofs.Tables.{entry_each, entry_same}
+use Rattle.kernel_model.proofs.StepKeeps.{IsKept, kept_fallen, kept_first, kept_followed, start_keeps}
+use Rattle.kernel_model.proofs.Tables.{entry_each, entry_same, none_there}
 use Rattle.kernel_model.proofs.WaitOrders.{AreRight, OfTasks, call_fits, delete_fits, release_fits, set_current_fits}
 
 -- ---- all that a step does
@@ -52,11 +52,7 @@ orders_kept = record {
 
 -- ---- what the kernel keeps
 
--- settling keeps the order
-pub settle_orderly : (st : State) → IsOrderly st.base st.sem_flags → IsOrderly (settle st).base (settle st).sem_flags
-settle_orderly st all = record { each = kept_settle HavePlaces IsRight orders_kept st all.each }
-
--- so do the change of a priority, the end of a wait, and a serving
+-- the change of a priority, the end of a wait and a serving keep the order
 pub current_orderly : (b : Base) (s : SemFlags) (t priority : ℕ) → IsOrderly b s → IsOrderly (set_current b t priority) s
 current_orderly b s t priority all = record { each = set_current_fits (order_for s) b t priority all.each }
 
@@ -66,22 +62,19 @@ release_orderly b s t answer all = record { each = release_fits (order_for s) b 
 pub serving_orderly : (b : Base) (s : SemFlags) (parts : SemFlagParts) → IsServing b s parts → IsOrderly b s → IsOrderly parts.base parts.table
 serving_orderly b s parts is all = record { each = serving_right b s parts is all.each }
 
--- an event that falls due keeps it
+-- so does an event that falls due
 pub fallen_orderly : (st : State) (what : DueKind) → IsOrderly st.base st.sem_flags → IsOrderly (fallen st what).base (fallen st what).sem_flags
 fallen_orderly st what all = record { each = kept_fallen HavePlaces IsRight orders_kept st what all.each }
 
 -- what is done at a step keeps it
-pub done_orderly : (script : Script) (n : ℕ) (st : State) → HavePlaces st.base → IsOrderly st.base st.sem_flags → IsOrderly (done_at script n st).state.base (done_at script n st).state.sem_flags
-done_orderly script n st has all = record { each = kept_done HavePlaces IsRight orders_kept script n st has all.each }
+pub first_orderly : (script : Script) (n : ℕ) (st : State) → HavePlaces st.base → IsOrderly st.base st.sem_flags → IsOrderly (done_at script n (paced script n st)).state.base (done_at script n (paced script n st)).state.sem_flags
+first_orderly script n st has all = record { each = kept_first HavePlaces IsRight orders_kept script n st has all.each }
 
--- and so does the step
-pub step_orderly : (script : Script) (budget : ℕ) (st : State) → HavePlaces st.base → IsOrderly st.base st.sem_flags → IsOrderly (step script budget st).state.base (step script budget st).state.sem_flags
-step_orderly script budget st has all = record { each = kept_step HavePlaces IsRight orders_kept script budget st has all.each }
-
-pub none_there : (n t : ℕ) → entry (replicate {A = Option Task} n None) t ≡ None
-none_there zero t = refl
-none_there (suc n) zero = refl
-none_there (suc n) (suc t) = none_there n t
+-- and so does all that follows it
+pub worked_orderly : (script : Script) (n : ℕ) (st : State) → HavePlaces st.base → IsOrderly st.base st.sem_flags → IsOrderly (worked script n st).state.base (worked script n st).state.sem_flags
+unfolding worked
+worked_orderly script n st has all =
+    record { each = kept_followed HavePlaces IsRight orders_kept script n (done_at script n (paced script n st)).state (kept_first HavePlaces IsRight orders_kept script n st has all.each) }
 
 base_right : (s : SemFlags) (priority : ℕ) → IsRight (base_start priority) s
 base_right s priority =

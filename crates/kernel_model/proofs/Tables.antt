@@ -1,6 +1,6 @@
 -- What is read of a table after one slot was written.
 use Rattle.std.proofs.Common.{◌≡◌, ℕ, suc, zero, Bool, true, false, List, [], ◌∷◌, Option, Some, None, refl, ap, sym, subst, arith}
-use Rattle.std.specs.Prelude.{slice_get, slice_set}
+use Rattle.std.specs.Prelude.{replicate, slice_get, slice_set}
 use Rattle.std.specs.Bool.{◌==◌}
 use Rattle.std.specs.Option.{option_flatten}
 use Rattle.std.proofs.lemmas.Bool.Decides.{nat_tests}
@@ -56,3 +56,9 @@ entry_at P o k b f at moved = subst (λ (q : Option Task). P (with_entry q b f))
 pub entry_split : (P : Base → Type 0) (o : Option Task) (b : Base) (f : Task → Base) → (o ≡ None → P b) → ((k : Task) → o ≡ Some k → P (f k)) → P (with_entry o b f)
 entry_split P None b f same moved = same refl
 entry_split P (Some k) b f same moved = moved k refl
+
+-- a table that is free has nothing
+pub none_there : (n t : ℕ) → entry (replicate {A = Option Task} n None) t ≡ None
+none_there zero t = refl
+none_there (suc n) zero = refl
+none_there (suc n) (suc t) = none_there n t

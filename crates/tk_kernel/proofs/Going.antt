@@ -9,11 +9,11 @@ use Rattle.kernel_model.specs.Base.{Base, base_start}
 use Rattle.kernel_model.specs.State.{State, no_frame, state_start}
 use Rattle.kernel_model.specs.Statements.{IsRunnable, memory_size, start_frame}
 use Rattle.kernel_model.specs.Settle.{dispatched}
-use Rattle.kernel_model.specs.Step.{step}
+use Rattle.kernel_model.specs.Step.{done_at, paced, step, worked}
 use Rattle.kernel_model.specs.Trace.{start}
 use Rattle.kernel_model.specs.SemFlags.{SemFlags, sem_flags_start}
 use Rattle.kernel_model.specs.Waits.{HavePlaces, IsOrderly}
-use Rattle.kernel_model.proofs.StepOrders.{start_orderly, step_orderly}
+use Rattle.kernel_model.proofs.StepOrders.{first_orderly, start_orderly, worked_orderly}
 use Rattle.kernel_model.proofs.Counts.{start_counted, start_unstepped, step_counted, step_left}
 use Rattle.tk_kernel.specs.Budgets.{IsGoing}
 
@@ -57,6 +57,13 @@ pub none_left : (over : Option End) → ((end : End) → over ≡ Some end → �
 none_left None differs = refl
 none_left (Some end) differs = absurd (differs end refl)
 
--- each task that waits stands in its order after a step
-pub orderly_after_step : (script : Script) (budget : ℕ) (old new : State) → HavePlaces old.base → IsOrderly old.base old.sem_flags → new ≡ (step script budget old).state → IsOrderly new.base new.sem_flags
-orderly_after_step script budget old new places orderly at_new = subst (λ (st : State). IsOrderly st.base st.sem_flags) (sym at_new) (step_orderly script budget old places orderly)
+-- each task that waits stands in its order after what is done at a step
+pub done_leaves_order : (script : Script) (n : ℕ) (old ready now : State) → HavePlaces old.base → IsOrderly old.base old.sem_flags → ready ≡ paced script n old → now ≡ (done_at script n ready).state → IsOrderly now.base now.sem_flags
+done_leaves_order script n old ready now places all at_ready at_now =
+    subst (λ (st : State). IsOrderly st.base st.sem_flags) (sym (at_now ∙ ap (λ (st : State). (done_at script n st).state) at_ready)) (first_orderly script n old places all)
+
+-- and after the step
+pub step_leaves_order : (script : Script) (n : ℕ) (old done now : State) → HavePlaces old.base → IsOrderly old.base old.sem_flags → done ≡ (worked script n old).state → now ≡ record done { steps = n } → IsOrderly now.base now.sem_flags
+step_leaves_order script n old done now places all at_done at_now =
+    let worked_on : IsOrderly done.base done.sem_flags = subst (λ (st : State). IsOrderly st.base st.sem_flags) (sym at_done) (worked_orderly script n old places all) in
+    subst (λ (st : State). IsOrderly st.base st.sem_flags) (sym at_now) worked_on

@@ -8,7 +8,7 @@ use Rattle.kernel_model.specs.Base.{Base, base_start, dispatch, waiting_in}
 use Rattle.kernel_model.specs.Orders.{entry}
 use Rattle.kernel_model.specs.Queues.{AreOfOrder, queue_in}
 use Rattle.kernel_model.proofs.Tables.{entry_each, entry_same}
-use Rattle.kernel_model.proofs.WaitOrders.{none_there}
+use Rattle.kernel_model.proofs.Tables.{none_there}
 use Rattle.task_calls.proofs.tests.outcome_at.Goals as goal
 
 -- a row of a task that waits for the object queues by the beginning of its wait
