@@ -16,13 +16,6 @@ use Rattle.kernel_model.proofs.Served.{next_served, resettle_keeps, serving, wit
 use Rattle.kernel_model.proofs.StepOrders.{current_orderly, fallen_orderly, release_orderly, serving_orderly}
 use Rattle.sem_flag.specs.Parts.{AreQueued, parts_of}
 
--- where each task that waits stands in the order of what it waits for, those of semaphores and flags do
-pub queued : (b : Base) (s : SemFlags) → IsOrderly b s → AreQueued b s
-queued b s all = record {
-  sems = λ id k low high there. sem_waiters_order b s id k all low high there;
-  flags = λ id k low high there. flag_waiters_order b s id k all low high there;
-}
-
 -- ---- one serving
 
 some_same : (served : Option SemFlagParts) (st : State) → is_some (option_map (with_parts st) served) ≡ is_some served
