@@ -19,7 +19,7 @@ named_if : (test : Bool) (n at : ℕ) → cond test (Some n) None ≡ Some at �
 named_if true n at is = (refl, cc is)
 named_if false n at is = absurd (cc is)
 
-abbrev wish : ℤ → FlagMode → FlagWish
+abbrev pub wish : ℤ → FlagMode → FlagWish
 wish bits mode = record { bits = cast_unsigned w32 bits; mode = mode }
 
 -- the checks hold, and the flag with that ID answers or lets the task wait

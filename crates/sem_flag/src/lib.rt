@@ -12,6 +12,8 @@ mod serving;
 mod table;
 #[cfg(test)]
 mod tests;
+#[cfg(test)]
+mod waiter_tests;
 
 pub use calls::call;
 pub use serving::{serve, serve_first};
