@@ -33,10 +33,10 @@ const PLAIN: &[u8] = b"utk 1\nboot main 10\nbody main task\nsay hello\nend\n";
 const INTERRUPTED: &[u8] = b"utk 1\npace 7\nirq 1 1\nboot main 10\nbody main task\nnop\nend\n";
 
 const LATER: &[u8] =
-    b"utk 1\n# note\nboot main 10\nbody main task\nsay a\ntk_cre_sem  - 0 1\nhalt\nend\n";
+    b"utk 1\n# note\nboot main 10\nbody main task\nsay a\ntk_cre_mtx  - 0\nhalt\nend\n";
 
 const LATER_FORM: &[u8] =
-    b"utk 1\nboot main 10\nbody main task\nsay a\ntk_cre_sem - 0 1\nhalt\nend\n";
+    b"utk 1\nboot main 10\nbody main task\nsay a\ntk_cre_mtx - 0\nhalt\nend\n";
 
 const OPEN_BODY: &[u8] = b"utk 1\nboot main 10\nbody main task\ntk_ext_tsk\n";
 

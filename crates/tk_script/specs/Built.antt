@@ -24,27 +24,46 @@ is_built_kind Task = true
 is_built_kind Hand = false
 is_built_kind Svc = false
 
--- calls: those on tasks
-unfoldable pub is_built_call : CallName → Bool
-is_built_call calls.TkCreTsk = true
-is_built_call calls.TkDelTsk = true
-is_built_call calls.TkStaTsk = true
-is_built_call calls.TkExtTsk = true
-is_built_call calls.TkExdTsk = true
-is_built_call calls.TkTerTsk = true
-is_built_call calls.TkChgPri = true
-is_built_call calls.TkRotRdq = true
-is_built_call calls.TkGetTid = true
-is_built_call calls.TkRefTsk = true
-is_built_call calls.TkSlpTsk = true
-is_built_call calls.TkWupTsk = true
-is_built_call calls.TkCanWup = true
-is_built_call calls.TkRelWai = true
-is_built_call calls.TkSusTsk = true
-is_built_call calls.TkRsmTsk = true
-is_built_call calls.TkFrsmTsk = true
-is_built_call calls.TkDlyTsk = true
-is_built_call _ = false
+-- the calls on tasks
+unfoldable pub is_task_call : CallName → Bool
+is_task_call calls.TkCreTsk = true
+is_task_call calls.TkDelTsk = true
+is_task_call calls.TkStaTsk = true
+is_task_call calls.TkExtTsk = true
+is_task_call calls.TkExdTsk = true
+is_task_call calls.TkTerTsk = true
+is_task_call calls.TkChgPri = true
+is_task_call calls.TkRotRdq = true
+is_task_call calls.TkGetTid = true
+is_task_call calls.TkRefTsk = true
+is_task_call calls.TkSlpTsk = true
+is_task_call calls.TkWupTsk = true
+is_task_call calls.TkCanWup = true
+is_task_call calls.TkRelWai = true
+is_task_call calls.TkSusTsk = true
+is_task_call calls.TkRsmTsk = true
+is_task_call calls.TkFrsmTsk = true
+is_task_call calls.TkDlyTsk = true
+is_task_call _ = false
+
+-- the calls on semaphores and event flags
+unfoldable pub is_sem_flag_call : CallName → Bool
+is_sem_flag_call calls.TkCreSem = true
+is_sem_flag_call calls.TkSigSem = true
+is_sem_flag_call calls.TkWaiSem = true
+is_sem_flag_call calls.TkRefSem = true
+is_sem_flag_call calls.TkCreFlg = true
+is_sem_flag_call calls.TkSetFlg = true
+is_sem_flag_call calls.TkClrFlg = true
+is_sem_flag_call calls.TkWaiFlg = true
+is_sem_flag_call calls.TkRefFlg = true
+is_sem_flag_call calls.TkDelSem = true
+is_sem_flag_call calls.TkDelFlg = true
+is_sem_flag_call _ = false
+
+-- calls: those of these families
+abbrev pub is_built_call : CallName → Bool
+is_built_call name = is_task_call name || is_sem_flag_call name
 
 -- statements: all but the return of a handler or a service
 unfoldable pub is_built_stmt : Head → Bool

@@ -1,7 +1,7 @@
 //! What isn't built yet. This file and `specs/Built.antt` are the one place that says how much is.
 
 ghost use Rattle.std.specs.Prelude.{◌≡◌, length, drop};
-ghost use Rattle.tk_script.specs.Built.{first_some, first_unbuilt, is_built_call, is_built_item, is_built_kind, is_built_stmt, unbuilt_bodies, unbuilt_body, unbuilt_header, unbuilt_item, unless_built};
+ghost use Rattle.tk_script.specs.Built.{first_some, first_unbuilt, is_built_call, is_built_item, is_built_kind, is_built_stmt, is_sem_flag_call, is_task_call, unbuilt_bodies, unbuilt_body, unbuilt_header, unbuilt_item, unless_built};
 
 use crate::numbers::{behind, behind_body, boot_numbers, first_number, pace_count};
 use tk_raw::{Head, RawBody, RawItem, RawScript};
@@ -26,10 +26,10 @@ fn is_built_kind(kind: BodyKind) -> bool
     }
 }
 
-/// Whether a call is built.
-#[tactic(auto, unfolding(crate::specs::Built::is_built_call))]
-fn is_built_call(name: CallName) -> bool
-    ensures { result ≡ is_built_call name }
+/// Whether it is a call on tasks.
+#[tactic(auto, unfolding(crate::specs::Built::is_task_call))]
+fn is_task_call(name: CallName) -> bool
+    ensures { result ≡ is_task_call name }
 {
     match name {
         CallName::TkCreTsk
@@ -52,6 +52,34 @@ fn is_built_call(name: CallName) -> bool
         | CallName::TkDlyTsk => true,
         _ => false,
     }
+}
+
+/// Whether it is a call on a semaphore or an event flag.
+#[tactic(auto, unfolding(crate::specs::Built::is_sem_flag_call))]
+fn is_sem_flag_call(name: CallName) -> bool
+    ensures { result ≡ is_sem_flag_call name }
+{
+    match name {
+        CallName::TkCreSem
+        | CallName::TkSigSem
+        | CallName::TkWaiSem
+        | CallName::TkRefSem
+        | CallName::TkCreFlg
+        | CallName::TkSetFlg
+        | CallName::TkClrFlg
+        | CallName::TkWaiFlg
+        | CallName::TkRefFlg
+        | CallName::TkDelSem
+        | CallName::TkDelFlg => true,
+        _ => false,
+    }
+}
+
+/// Whether a call is built.
+fn is_built_call(name: CallName) -> bool
+    ensures { result ≡ is_built_call name }
+{
+    is_task_call(name) || is_sem_flag_call(name)
 }
 
 /// Whether a statement is built.

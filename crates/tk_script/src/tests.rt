@@ -122,9 +122,17 @@ fn lines_and_texts_have_a_limit(rt: HostRuntime) -> Result<(), Fail> {
 #[test]
 fn the_first_line_not_built_is_told(rt: HostRuntime) -> Result<(), Fail> {
     let alloc = rt.alloc();
-    let cases: [(&str, Option<(u32, Why)>); 8] = [
+    let cases: [(&str, Option<(u32, Why)>); 10] = [
         (
             "utk 1\nboot main 10\nbody main task\ntk_cre_tsk TA_ASM main 5 r1\nldb r2 0\nlabel on\njump on\ntk_dly_tsk 2\nshow 3\ntk_ref_tsk 1\nhalt\nend\n",
+            None,
+        ),
+        (
+            "utk 1\nboot main 10\nbody main task\ntk_cre_sem TA_CNT 0 1\ntk_sig_sem 1 1\ntk_wai_sem 1 1 0\ntk_ref_sem 1\ntk_del_sem 1\nend\n",
+            None,
+        ),
+        (
+            "utk 1\nboot main 10\nbody main task\ntk_cre_flg TA_WMUL 0\ntk_set_flg 1 3\ntk_clr_flg 1 1\ntk_wai_flg 1 1 TWF_ORW 0\ntk_ref_flg 1\ntk_del_flg 1\nend\n",
             None,
         ),
         (
@@ -140,7 +148,7 @@ fn the_first_line_not_built_is_told(rt: HostRuntime) -> Result<(), Fail> {
             Some((2, Why::Later)),
         ),
         (
-            "utk 1\nboot main 10\nbody main task\nlabel a\n# note\ntk_cre_sem - 0 1\nend\n",
+            "utk 1\nboot main 10\nbody main task\nlabel a\n# note\ntk_cre_mtx - 0\nend\n",
             Some((6, Why::Later)),
         ),
         (
