@@ -18,10 +18,10 @@ ids-preserved c =
 
 pub returns : goal.returns
 returns c = λ yes. record {
-  sems = λ id k there.
+  sems = λ id k low high there.
       let taken : id < length c.args.table.now.sems = inside c.args.table.now.sems id (ap is_some there) in
       c.ids.invariant.sems id (omega arith) k there;
-  flags = λ id k there.
+  flags = λ id k low high there.
       let taken : id < length c.args.table.now.flags = inside c.args.table.now.flags id (ap is_some there) in
       c.ids.invariant.flags id (omega arith) k there;
 }
