@@ -91,9 +91,11 @@ impl Base {
         self.waits.head(obj)
     }
 
-    /// States, at no cost, that each task that waits has its places among the stamps and by the beginning of its wait.
-    pub fn waiters_have_places(&self)
-        ensures { HavePlaces self.now }
+    /// States, at no cost, what the base keeps of its tasks: there is a slot for each ID, and each task that waits has its
+    /// places among the stamps and by the beginning of its wait.
+    pub fn known_of_tasks(&self)
+        ensures slots { length self.now.tasks ≡ 256 }
+        ensures places { HavePlaces self.now }
     {
         let _waits = &self.waits;
     }

@@ -30,3 +30,4 @@ pub mod Served
 pub mod FamilyPlaces
 pub mod Settled
 pub mod Reached
+pub mod Rest

@@ -1,6 +1,6 @@
 -- What holds of every state that a run comes to: nobody can be served, and each task's current priority is that of its
 -- definition. What follows settling in a step changes nothing that a serving reads.
-use Rattle.std.proofs.Common.{◌≡◌, ℕ, suc, zero, ◌+◌, ◌≤◌, List, [], ◌∷◌, Option, Some, None, drop, replicate, refl, ◌∙◌, ap, sym, arith}
+use Rattle.std.proofs.Common.{◌≡◌, ℕ, suc, zero, ◌+◌, ◌≤◌, List, [], ◌∷◌, Option, Some, None, drop, length, replicate, refl, ◌∙◌, ap, sym, arith}
 use Rattle.std.proofs.lemmas.List.{length-set}
 use Rattle.tk_types.specs.declared.script.Script.{Script}
 use Rattle.tk_types.specs.declared.task.Order.{Order}
@@ -12,6 +12,7 @@ use Rattle.kernel_model.specs.declared.objects.EventFlag.{EventFlag}
 use Rattle.kernel_model.specs.Base.{Base, base_in, current, current_in, queue}
 use Rattle.kernel_model.specs.Priority.{current_of, taken_from}
 use Rattle.kernel_model.specs.SemFlags.{SemFlags, SemFlagParts, sem_at, flag_at, sem_object, flag_object, is_there, is_fulfilled, sem_pick, sem_served, flag_served, serve_sem, serve_sem_at, serve_sem_of, serve_flag, serve_flag_at, serve_flag_of, first_served, or_else, serve_sem_flag}
+use Rattle.kernel_model.specs.Settle.{followed}
 use Rattle.kernel_model.specs.State.{State, state_start}
 use Rattle.kernel_model.specs.Step.{done_at, paced, step}
 use Rattle.kernel_model.specs.Trace.{start, state_after}
@@ -114,18 +115,22 @@ reached_slots script budget (suc n) = kept_step (λ b. Unit {0}) (λ b s. HasSlo
 
 -- ---- nobody can be served
 
-start_unserved : (script : Script) → IsUnserved (start script).state.base (start script).state.sem_flags
+pub start_unserved : (script : Script) → IsUnserved (start script).state.base (start script).state.sem_flags
 unfolding state_start serve_sem_flag first_served
 start_unserved script = start_keeps IsUnserved script refl (λ cur. refl)
+
+-- nobody can be served once all that follows an event is done
+pub unserved_after : (script : Script) (n : ℕ) (st : State) → length st.base.tasks ≤ 256 → IsUnserved (followed script n st).state.base (followed script n st).state.sem_flags
+unserved_after script n st slots =
+    settled_keeps IsUnserved (λ b s cur is. unserved_same b (record b { cur = cur }) s (turned_queues b cur) is) (λ b s is. unserved_same b (record b { released = [] }) s (emptied_queues b) is) script n st
+    (settle_unserved st slots)
 
 step_unserved : (script : Script) (budget : ℕ) (st : State) → HasSlots st.base.tasks → IsUnserved st.base st.sem_flags → IsUnserved (step script budget st).state.base (step script budget st).state.sem_flags
 step_unserved script budget st slots none =
     let n : ℕ = st.steps + 1 in
     let done : State = (done_at script n (paced script n st)).state in
     let left : HasSlots done.base.tasks = kept_first (λ b. Unit {0}) (λ b s. HasSlots b.tasks) slots_kept script n st tt slots in
-    worked_keeps IsUnserved script budget st none
-    (settled_keeps IsUnserved (λ b s cur is. unserved_same b (record b { cur = cur }) s (turned_queues b cur) is) (λ b s is. unserved_same b (record b { released = [] }) s (emptied_queues b) is) script n done
-    (settle_unserved done (omega (arith, left))))
+    worked_keeps IsUnserved script budget st none (unserved_after script n done (omega (arith, left)))
 
 -- in every state that a run reaches nobody can be served
 pub reached_unserved : (script : Script) (budget n : ℕ) → serve_sem_flag (state_after script budget n).base (state_after script budget n).sem_flags ≡ None
@@ -135,7 +140,7 @@ reached_unserved script budget (suc n) = step_unserved script budget (state_afte
 
 -- ---- the priorities
 
-start_up_to_date : (script : Script) (t : ℕ) → IsUpToDate t (start script).state.base
+pub start_up_to_date : (script : Script) (t : ℕ) → IsUpToDate t (start script).state.base
 unfolding state_start
 start_up_to_date script t =
     let slot = boot_slot script.boot.priority in

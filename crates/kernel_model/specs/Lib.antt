@@ -15,6 +15,7 @@ pub mod SemFlags
 pub mod SemFlagCalls
 pub mod Trial
 pub mod Waits
+pub mod Rest
 pub mod Queues
 pub mod Statements
 pub mod State

@@ -1,18 +1,21 @@
 -- What a machine keeps between its calls, at the start and after a step.
-use Rattle.std.proofs.Common.{◌≡◌, ℕ, ◌<◌, ◌≤◌, Bool, false, Option, Some, None, refl, sym, ◌∙◌, subst, ap, arith, List, pos}
+use Rattle.std.proofs.Common.{◌≡◌, ℕ, ◌<◌, ◌≤◌, Bool, false, Option, Some, None, refl, sym, ◌∙◌, subst, ap, arith, List, [], ◌++◌, append-nil, length, pos}
 use Rattle.std.specs.Prelude.{replicate, slice_set}
 use Rattle.tk_types.specs.declared.script.Script.{Script}
 use Rattle.tk_types.specs.declared.run.End.{End}
+use Rattle.tk_types.specs.declared.line.Line.{Line}
 use Rattle.kernel_model.specs.Counts.{IsCounted}
 use Rattle.tk_types.specs.declared.run.Frame.{Frame}
 use Rattle.kernel_model.specs.Base.{Base, base_start}
 use Rattle.kernel_model.specs.State.{State, no_frame, state_start}
 use Rattle.kernel_model.specs.Statements.{IsRunnable, memory_size, start_frame}
-use Rattle.kernel_model.specs.Settle.{dispatched}
+use Rattle.kernel_model.specs.Rest.{IsAtRest}
+use Rattle.kernel_model.specs.Settle.{Event, behind, dispatched, followed, settle, with_releases}
 use Rattle.kernel_model.specs.Step.{done_at, paced, step, worked}
 use Rattle.kernel_model.specs.Trace.{start}
 use Rattle.kernel_model.specs.SemFlags.{SemFlags, sem_flags_start}
 use Rattle.kernel_model.specs.Waits.{HavePlaces, IsOrderly}
+use Rattle.kernel_model.proofs.Rest.{followed_none, followed_rest, start_rest}
 use Rattle.kernel_model.proofs.StepOrders.{first_orderly, start_orderly, worked_orderly}
 use Rattle.kernel_model.proofs.Counts.{start_counted, start_unstepped, step_counted, step_left}
 use Rattle.tk_kernel.specs.Budgets.{IsGoing}
@@ -42,15 +45,17 @@ going_at_start script budget first state runnable low high at_first at_state =
       left = λ f o. let none : state.steps ≡ 0 = ap (λ st. st.steps) at ∙ start_unstepped script in omega arith;
       counts = λ f o. subst IsCounted (sym at) (start_counted script);
       orderly = λ f o. subst (λ (st : State). IsOrderly st.base st.sem_flags) (sym at) (start_orderly script);
+      rest = λ f o. subst (λ (st : State). IsAtRest st.base st.sem_flags) (sym at) (start_rest script);
     }
 
-pub going_after_step : (script : Script) (budget : ℕ) (old new : State) (over : Option End) (failed : Bool) → IsRunnable script → budget ≤ 1000000 → old.steps < budget → IsCounted old → IsOrderly new.base new.sem_flags → new ≡ (step script budget old).state → over ≡ (step script budget old).over → IsGoing script budget new over failed
-going_after_step script budget old new over failed runnable high below counts orderly at_new at_over = record {
+pub going_after_step : (script : Script) (budget : ℕ) (old new : State) (over : Option End) (failed : Bool) → IsRunnable script → budget ≤ 1000000 → old.steps < budget → IsCounted old → IsOrderly new.base new.sem_flags → IsAtRest new.base new.sem_flags → new ≡ (step script budget old).state → over ≡ (step script budget old).over → IsGoing script budget new over failed
+going_after_step script budget old new over failed runnable high below counts orderly rest at_new at_over = record {
   runnable = runnable;
   limit = high;
   left = λ f o. subst (λ (st : State). st.steps < budget) (sym at_new) (step_left script budget old below (sym at_over ∙ o));
   counts = λ f o. subst IsCounted (sym at_new) (step_counted script budget old counts (sym at_over ∙ o));
   orderly = λ f o. orderly;
+  rest = λ f o. rest;
 }
 
 pub none_left : (over : Option End) → ((end : End) → over ≡ Some end → ⊥) → over ≡ None
@@ -67,3 +72,28 @@ pub step_leaves_order : (script : Script) (n : ℕ) (old done now : State) → H
 step_leaves_order script n old done now places all at_done at_now =
     let worked_on : IsOrderly done.base done.sem_flags = subst (λ (st : State). IsOrderly st.base st.sem_flags) (sym at_done) (worked_orderly script n old places all) in
     subst (λ (st : State). IsOrderly st.base st.sem_flags) (sym at_now) worked_on
+
+-- ---- states at rest
+
+-- where what was done at a step leaves the state at rest, nothing follows
+rest_is_all : (script : Script) (n : ℕ) (old ready now : State) → IsAtRest now.base now.sem_flags → ready ≡ paced script n old → now ≡ (done_at script n ready).state → worked script n old ≡ record { state = now; lines = (done_at script n ready).lines ++ [] }
+unfolding worked
+rest_is_all script n old ready now rest at_ready at_now =
+    ap (λ (st : State). behind (done_at script n st).lines (followed script n (done_at script n st).state)) (sym at_ready)
+    ∙ ap (λ (st : State). behind (done_at script n ready).lines (followed script n st)) (sym at_now)
+    ∙ ap (λ (event : Event). behind (done_at script n ready).lines event) (followed_none script n now rest)
+
+pub rest_state : (script : Script) (n : ℕ) (old ready now : State) → IsAtRest now.base now.sem_flags → ready ≡ paced script n old → now ≡ (done_at script n ready).state → now ≡ (worked script n old).state
+rest_state script n old ready now rest at_ready at_now = sym (ap (λ (event : Event). event.state) (rest_is_all script n old ready now rest at_ready at_now))
+
+pub rest_lines : (script : Script) (n : ℕ) (old ready now : State) (before after : List Line) → IsAtRest now.base now.sem_flags → ready ≡ paced script n old → now ≡ (done_at script n ready).state → after ≡ before ++ (done_at script n ready).lines → after ≡ before ++ (worked script n old).lines
+rest_lines script n old ready now before after rest at_ready at_now written =
+    written
+    ∙ ap (λ (lines : List Line). before ++ lines) (sym (append-nil (done_at script n ready).lines) ∙ sym (ap (λ (event : Event). event.lines) (rest_is_all script n old ready now rest at_ready at_now)))
+
+-- all that follows an event leaves the state at rest
+pub comes_to_rest : (script : Script) (n : ℕ) (old settled released now : State) → length old.base.tasks ≡ 256 → settled ≡ settle old → released ≡ (with_releases script n settled).state → now ≡ (dispatched n released).state → IsAtRest now.base now.sem_flags
+unfolding followed
+comes_to_rest script n old settled released now slots at_settled at_released at_now =
+    let all : now ≡ (followed script n old).state = at_now ∙ ap (λ (st : State). (dispatched n st).state) (at_released ∙ ap (λ (st : State). (with_releases script n st).state) at_settled) in
+    subst (λ (st : State). IsAtRest st.base st.sem_flags) (sym all) (followed_rest script n old (omega (arith, slots)))

@@ -1,6 +1,6 @@
 //! The state of a run: the kernel's parts, and what the script's bodies have come to.
 
-ghost use Rattle.std.specs.Prelude.{◌≡◌, IfOk, replicate, slice_set, unwrap_or};
+ghost use Rattle.std.specs.Prelude.{◌≡◌, IfOk, length, replicate, slice_set, unwrap_or};
 ghost use Rattle.kernel_model.specs.Statements.{IsRunnable};
 ghost use Rattle.kernel_model.specs.Waits.{HavePlaces};
 ghost use Rattle.kernel_model.specs.State.{frame_of, no_frame, state_start, with_frame};
@@ -99,11 +99,13 @@ impl Kernel {
         self.frames[task as usize] = frame;
     }
 
-    /// States, at no cost, that each task that waits has its places among the stamps and by the beginning of its wait.
-    pub(crate) fn waiters_have_places(&self)
-        ensures { HavePlaces self.now.base }
+    /// States, at no cost, that there is a slot for each task, and that each task that waits has its places among the stamps
+    /// and by the beginning of its wait.
+    pub(crate) fn known_of_tasks(&self)
+        ensures slots { length self.now.base.tasks ≡ 256 }
+        ensures places { HavePlaces self.now.base }
     {
-        self.base.waiters_have_places();
+        self.base.known_of_tasks();
     }
 
     /// How many steps are done.

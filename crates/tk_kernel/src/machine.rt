@@ -6,6 +6,7 @@ ghost use Rattle.kernel_model.specs.Machine.{Machine as MachineView, after_step,
 ghost use Rattle.kernel_model.specs.Statements.{IsRunnable};
 ghost use Rattle.kernel_model.specs.Step.{step};
 ghost use Rattle.tk_kernel.specs.Pace.{pace_of};
+ghost use Rattle.kernel_model.specs.Rest.{IsAtRest};
 ghost use Rattle.kernel_model.specs.Waits.{IsOrderly};
 
 use crate::kernel::Kernel;
@@ -61,12 +62,14 @@ fn advance(
     requires left { kernel.old.steps < budget }
     requires counts { IsCounted kernel.old }
     requires orderly { IsOrderly kernel.old.base kernel.old.sem_flags }
+    requires rest { IsAtRest kernel.old.base kernel.old.sem_flags }
     ensures state { OnOk result (kernel.new ≡ (step script.now budget kernel.old).state) }
     ensures ending { IfOk result (λ over. over ≡ (step script.now budget kernel.old).over) }
     ensures lines { OnOk result (lines.new.items ≡ lines.old.items ++ (step script.now budget kernel.old).lines) }
     ensures orderly { OnOk result (IsOrderly kernel.new.base kernel.new.sem_flags) }
+    ensures rest { OnOk result (IsAtRest kernel.new.base kernel.new.sem_flags) }
 {
-    kernel.waiters_have_places();
+    kernel.known_of_tasks();
     if kernel.is_quiet() {
         push_end(lines, kernel.steps(), Some(End::Idle))?;
         return Ok(Some(End::Idle));

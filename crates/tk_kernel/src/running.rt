@@ -1,8 +1,9 @@
 //! Statements of tasks.
 
-ghost use Rattle.std.specs.Prelude.{◌≡◌, ◌<◌, ◌^◌, ◌∷◌, ◌++◌, OnOk, []};
+ghost use Rattle.std.specs.Prelude.{◌≡◌, ◌<◌, ◌^◌, ◌∷◌, ◌++◌, IfOk, OnOk, [], false};
 ghost use Rattle.kernel_model.specs.Statements.{IsRunnable};
 ghost use Rattle.kernel_model.specs.Step.{acted, ran, said_line};
+ghost use Rattle.kernel_model.specs.Rest.{IsAtRest};
 ghost use Rattle.kernel_model.specs.Waits.{IsOrderly};
 
 use crate::kernel::Kernel;
@@ -29,7 +30,8 @@ fn say(lines: &mut Vec<Line>, step: u32, who: u8, text: SayText) -> Result<(), A
 }
 
 impl Kernel {
-    /// What a statement of a task asked for. The end of a task's body is the call that ends the task.
+    /// What a statement of a task asked for, and whether that was a call: nothing else touches what the kernel keeps of
+    /// tasks and objects. The end of a task's body is the call that ends the task.
     #[tactic(auto, unfolding(kernel_model::specs::Step::acted))]
     fn act(
         &mut self,
@@ -37,27 +39,38 @@ impl Kernel {
         task: u8,
         act: &Act,
         lines: &mut Vec<Line>,
-    ) -> Result<(), AllocError>
+    ) -> Result<bool, AllocError>
         requires few { self.old.base.made < 2 ^ 63 }
         requires early { self.old.base.time < 2 ^ 63 }
         requires orderly { IsOrderly self.old.base self.old.sem_flags }
+        requires rest { IsAtRest self.old.base self.old.sem_flags }
         ensures state { OnOk result (self.new ≡ (acted step self.old task act.now).state) }
         ensures lines { OnOk result (lines.new.items ≡ lines.old.items ++ (acted step self.old task act.now).lines) }
+        ensures rest { IfOk result (λ touched. touched ≡ false → IsAtRest self.new.base self.new.sem_flags) }
     {
         match act {
-            Act::Call(call) => self.make_call(step, task, call, lines),
-            Act::Say(text) => say(lines, step, task, *text),
-            Act::Fell => self.make_call(step, task, &Call::Task(TaskCall::ExtTsk), lines),
+            Act::Call(call) => {
+                self.make_call(step, task, call, lines)?;
+                Ok(true)
+            }
+            Act::Fell => {
+                self.make_call(step, task, &Call::Task(TaskCall::ExtTsk), lines)?;
+                Ok(true)
+            }
+            Act::Say(text) => {
+                say(lines, step, task, *text)?;
+                Ok(false)
+            }
             Act::Halt => {
                 self.halted = true;
-                Ok(())
+                Ok(false)
             }
-            Act::Computed => Ok(()),
-            Act::Return(_) => Ok(()),
+            Act::Computed => Ok(false),
+            Act::Return(_) => Ok(false),
         }
     }
 
-    /// A statement of a task.
+    /// A statement of a task, and whether it was a call.
     #[tactic(auto, unfolding(kernel_model::specs::Step::ran))]
     pub(crate) fn run(
         &mut self,
@@ -65,13 +78,15 @@ impl Kernel {
         step: u32,
         task: u8,
         lines: &mut Vec<Line>,
-    ) -> Result<(), AllocError>
+    ) -> Result<bool, AllocError>
         requires runnable { IsRunnable script.now }
         requires few { self.old.base.made < 2 ^ 63 }
         requires early { self.old.base.time < 2 ^ 63 }
         requires orderly { IsOrderly self.old.base self.old.sem_flags }
+        requires rest { IsAtRest self.old.base self.old.sem_flags }
         ensures state { OnOk result (self.new ≡ (ran script.now step self.old task).state) }
         ensures lines { OnOk result (lines.new.items ≡ lines.old.items ++ (ran script.now step self.old task).lines) }
+        ensures rest { IfOk result (λ touched. touched ≡ false → IsAtRest self.new.base self.new.sem_flags) }
     {
         let mut frame = self.frame(task);
         let act = fetch(&mut frame, &mut self.memory, script);

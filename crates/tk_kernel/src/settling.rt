@@ -5,6 +5,7 @@ ghost use Rattle.std.specs.Option.{is_some};
 ghost use Rattle.kernel_model.specs.Base.{task_at};
 ghost use Rattle.tk_types.specs.declared.call_name.CallName.{CallName};
 ghost use Rattle.kernel_model.specs.Priority.{current_of, refresh, resettle};
+ghost use Rattle.kernel_model.specs.Rest.{IsAtRest};
 ghost use Rattle.kernel_model.specs.Waits.{IsOrderly};
 ghost use Rattle.kernel_model.specs.Settle.{dispatched, follow_release, followed, refreshed, release_line, serve_first, settle, with_releases};
 
@@ -167,9 +168,12 @@ impl Kernel {
         requires orderly { IsOrderly self.old.base self.old.sem_flags }
         ensures state { OnOk result (self.new ≡ (followed script.now step self.old).state) }
         ensures lines { OnOk result (lines.new.items ≡ lines.old.items ++ (followed script.now step self.old).lines) }
+        ensures rest { OnOk result (IsAtRest self.new.base self.new.sem_flags) }
     {
+        self.known_of_tasks();
         self.settle();
         self.follow_releases(script, step, lines)?;
-        self.dispatch(step, lines)
+        self.dispatch(step, lines)?;
+        Ok(())
     }
 }

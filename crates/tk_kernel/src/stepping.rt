@@ -1,10 +1,11 @@
 //! What is done at a step.
 
-ghost use Rattle.std.specs.Prelude.{◌≡◌, ◌<◌, ◌^◌, ◌++◌, IfOk, OnOk};
+ghost use Rattle.std.specs.Prelude.{◌≡◌, ◌<◌, ◌^◌, ◌++◌, IfOk, OnOk, false};
 ghost use Rattle.std.specs.Bool.{◌==◌};
 ghost use Rattle.kernel_model.specs.Statements.{IsRunnable};
 ghost use Rattle.kernel_model.specs.Step.{counted, done_at, end_after, end_lines, has_tick, is_paced, is_quiet, paced, worked};
 ghost use Rattle.kernel_model.specs.Settle.{Event};
+ghost use Rattle.kernel_model.specs.Rest.{IsAtRest};
 ghost use Rattle.kernel_model.specs.Waits.{IsOrderly};
 
 use crate::kernel::Kernel;
@@ -70,40 +71,47 @@ impl Kernel {
     /// A tick becomes pending where the step is one of the pace.
     fn set_pace(&mut self, script: &Script, step: u32)
         requires { self.old.ticks < 2 ^ 31 }
-        ensures { self.new ≡ paced script.now step self.old }
+        ensures paced { self.new ≡ paced script.now step self.old }
+        ensures base { self.new.base ≡ self.old.base }
+        ensures objects { self.new.sem_flags ≡ self.old.sem_flags }
     {
         if is_paced(script.pace, step) {
             self.ticks += 1;
         }
     }
 
-    /// What is done at a step: a pending tick, the statement of the current task, or an idle tick.
+    /// What is done at a step: a pending tick, the statement of the current task, or an idle tick. The answer is whether it
+    /// may have touched what the kernel keeps of tasks and objects.
     #[tactic(auto, unfolding(kernel_model::specs::Step::done_at))]
     fn do_step(
         &mut self,
         script: &Script,
         step: u32,
         lines: &mut Vec<Line>,
-    ) -> Result<(), AllocError>
+    ) -> Result<bool, AllocError>
         requires runnable { IsRunnable script.now }
         requires few { self.old.base.made < 2 ^ 63 }
         requires early { self.old.base.time < 2 ^ 63 }
         requires orderly { IsOrderly self.old.base self.old.sem_flags }
+        requires rest { IsAtRest self.old.base self.old.sem_flags }
         ensures state { OnOk result (self.new ≡ (done_at script.now step self.old).state) }
         ensures lines { OnOk result (lines.new.items ≡ lines.old.items ++ (done_at script.now step self.old).lines) }
+        ensures rest { IfOk result (λ touched. touched ≡ false → IsAtRest self.new.base self.new.sem_flags) }
     {
         if self.has_tick() {
             self.ticks -= 1;
-            return self.tick(step, lines);
+            self.tick(step, lines)?;
+            return Ok(true);
         }
         let task = self.running();
         if task == 0 {
-            return self.tick(step, lines);
+            self.tick(step, lines)?;
+            return Ok(true);
         }
         self.run(script, step, task, lines)
     }
 
-    /// What is done at a step, with all that follows it.
+    /// What is done at a step, with all that follows it: where it touched nothing, nothing does.
     #[tactic(auto, unfolding(kernel_model::specs::Step::worked))]
     pub(crate) fn work(
         &mut self,
@@ -115,13 +123,18 @@ impl Kernel {
         requires few { self.old.base.made < 2 ^ 63 }
         requires early { self.old.base.time < 2 ^ 63 }
         requires orderly { IsOrderly self.old.base self.old.sem_flags }
+        requires rest { IsAtRest self.old.base self.old.sem_flags }
         requires ticks { self.old.ticks < 2 ^ 31 }
         ensures state { OnOk result (self.new ≡ (worked script.now step self.old).state) }
         ensures lines { OnOk result (lines.new.items ≡ lines.old.items ++ (worked script.now step self.old).lines) }
+        ensures rest { OnOk result (IsAtRest self.new.base self.new.sem_flags) }
     {
-        self.waiters_have_places();
+        self.known_of_tasks();
         self.set_pace(script, step);
-        self.do_step(script, step, lines)?;
+        let touched = self.do_step(script, step, lines)?;
+        if !touched {
+            return Ok(());
+        }
         self.follow(script, step, lines)
     }
 

@@ -7,5 +7,6 @@ invariant_of-self c =
     (c.self.invariant.left c.if-self.false (none_left _ c.in_default.not-Some))
     (c.self.invariant.counts c.if-self.false (none_left _ c.in_default.not-Some))
     c.in-Ok.ensures.orderly
+    c.in-Ok.ensures.rest
     c.in-Ok.ensures.state
     c.in-Ok.ensures.ending

@@ -1,11 +1,10 @@
 use Rattle.std.proofs.Common.{subst}
-use Rattle.kernel_model.specs.Base.{Base}
 use Rattle.kernel_model.specs.Waits.{HavePlaces}
-use Rattle.kernel_base.proofs.base.Base.waiters_have_places.Goals as goal
+use Rattle.kernel_base.proofs.base.Base.known_of_tasks.Goals as goal
 
 -- a queue's waiters have their places
-pub returns : goal.returns
-returns c = subst HavePlaces c.self.view_is (record {
+pub returns-clause-places : goal.returns-clause-places
+returns-clause-places c = subst HavePlaces c.self.view_is (record {
   ranks = λ t object waits. ((c.self.invariant.waits.queues object).each t waits).ranks;
   stands = λ t object waits. ((c.self.invariant.waits.queues object).each t waits).stands;
 })

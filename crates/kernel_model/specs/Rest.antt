@@ -1,0 +1,13 @@
+-- What it means that nothing follows from a state: it has settled, no end of a wait is left to take, and the chosen task is
+-- the current one.
+use Rattle.std.specs.Prelude.{ℕ, ◌≡◌, ◌≤◌, true, [], None}
+use Rattle.kernel_model.specs.Base.{Base, chosen, current}
+use Rattle.kernel_model.specs.Priority.{current_of}
+use Rattle.kernel_model.specs.SemFlags.{SemFlags, serve_sem_flag}
+use Rattle.kernel_model.specs.Views.{is_current}
+
+pub record IsAtRest (b : Base) (s : SemFlags) : Type 0 where
+  pub unserved : serve_sem_flag b s ≡ None
+  pub up_to_date : (t : ℕ) → 1 ≤ t → current b t ≡ current_of b t
+  pub followed : b.released ≡ []
+  pub dispatched : is_current (chosen b) b.cur ≡ true
