@@ -1,6 +1,6 @@
 //! Laws of the definitions, each the contract of a function that does nothing.
 
-ghost use Rattle.std.specs.Prelude.{◌≡◌, ℕ, suc, ◌+◌, ◌<◌, ◌≤◌, ◌==◌, if◌then◌else◌, filter, Bool, false, true, ℤ, pos, List, length, ◌∷◌, ◌++◌, ◌⊎◌, None, Some};
+ghost use Rattle.std.specs.Prelude.{◌≡◌, ℕ, suc, ◌+◌, ◌<◌, ◌≤◌, ◌==◌, if◌then◌else◌, filter, Bool, false, true, ℤ, pos, List, length, [], ◌∷◌, ◌++◌, ◌⊎◌, None, Some};
 ghost use Rattle.std.specs.Int.{is_negative};
 ghost use Rattle.tk_types.specs.declared.answer.Answer.{Answer};
 ghost use Rattle.tk_types.specs.declared.answer.Outcome.TheVariants.{Returned};
@@ -25,15 +25,16 @@ ghost use Rattle.kernel_model.specs.Once.{IsOnce, times};
 ghost use Rattle.kernel_model.specs.Orders.{without};
 ghost use Rattle.kernel_model.specs.Precedence.{KeepsPlace, NoneReady, Precedes, StandsLast, gives_place_away};
 ghost use Rattle.kernel_model.specs.Priority.{current_of};
+ghost use Rattle.kernel_model.specs.Rest.{IsAtRest};
 ghost use Rattle.kernel_model.specs.Rising.{IsRisingBy};
 ghost use Rattle.kernel_model.specs.SemFlagCalls.{sem_flag_call, serves_at_once, waited_for_flag, waited_for_sem};
 ghost use Rattle.kernel_model.specs.SemFlags.{SemFlagParts, SemFlags, flag_at, has_bits, sem_at, serve_flag, serve_sem, serve_sem_flag};
-ghost use Rattle.kernel_model.specs.Settle.{settle};
+ghost use Rattle.kernel_model.specs.Settle.{followed, settle};
 ghost use Rattle.kernel_model.specs.State.{State};
 ghost use Rattle.kernel_model.specs.TaskCalls.{task_call};
 ghost use Rattle.kernel_model.specs.Ticks.{tick_state};
 ghost use Rattle.kernel_model.specs.TimeOrder.{AreDueBy, AreInTimeOrder, AreLater, ComesAfter, after_ticks, after_time};
-ghost use Rattle.kernel_model.specs.Trace.{state_after};
+ghost use Rattle.kernel_model.specs.Trace.{start, state_after};
 ghost use Rattle.kernel_model.specs.Trial.{MayWait, flag_trial, sem_trial};
 ghost use Rattle.kernel_model.specs.Waiters.{waiting_count};
 
@@ -195,4 +196,15 @@ pub fn settling_serves_until_none_can_be()
         serve_sem_flag (state_after script budget n).base (state_after script budget n).sem_flags ≡ None }
     ensures reached_priorities { (script : Script) (budget n t : ℕ) → 1 ≤ t →
         current (state_after script budget n).base t ≡ current_of (state_after script budget n).base t }
+{}
+
+/// From a state at rest nothing follows: where it has settled, no end of a wait is left to take, and the chosen task is the
+/// current one, an event that touched neither the base nor the objects is followed by no change and no line. The start is at
+/// rest, and all that follows an event leaves a state at rest.
+pub fn nothing_follows_from_a_state_at_rest()
+    ensures nothing { (script : Script) (n : ℕ) (st : State) → IsAtRest st.base st.sem_flags →
+        followed script n st ≡ record { state = st; lines = [] } }
+    ensures start { (script : Script) → IsAtRest (start script).state.base (start script).state.sem_flags }
+    ensures comes { (script : Script) (n : ℕ) (st : State) → length st.base.tasks ≤ 256 →
+        IsAtRest (followed script n st).state.base (followed script n st).state.sem_flags }
 {}
