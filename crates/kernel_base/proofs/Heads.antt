@@ -1,6 +1,6 @@
 -- What the queue of the waiters tells is what the table and the orders tell.
 use Rattle.std.specs.Option.{option_map}
-use Rattle.std.proofs.Common.{length, suc, zero, ◌≡◌, ℕ, ◌<◌, ◌≤◌, Bool, true, false, List, [], ◌∷◌, Option, Some, None, map, refl, arith, ap, subst, sym, ◌∙◌, cond}
+use Rattle.std.proofs.Common.{length, suc, zero, ◌≡◌, ℕ, true, false, List, [], ◌∷◌, Option, Some, None, map, refl, arith, ap, subst, sym, ◌∙◌, cond}
 use Rattle.std.specs.List.{AllByRecursion}
 use Rattle.std.specs.Prelude.{filter, slice_get}
 use Rattle.std.proofs.lemmas.Bool.{or_parts}

@@ -1,20 +1,19 @@
 -- Settling, one serving after another; and what the parts of the state ask of each other.
-use Rattle.std.proofs.Common.{◌≡◌, ℕ, zero, suc, ◌+◌, ◌-◌, ◌<◌, ◌≤◌, Bool, true, false, Option, Some, None, refl, sym, ◌∙◌, ap, subst, arith}
+use Rattle.std.proofs.Common.{◌≡◌, ℕ, zero, suc, ◌+◌, ◌-◌, ◌<◌, ◌≤◌, true, false, Option, Some, None, refl, sym, ◌∙◌, ap, subst, arith}
 use Rattle.std.specs.Prelude.{unwrap_or}
 use Rattle.std.specs.Option.{is_some, option_map}
 use Rattle.tk_types.specs.declared.answer.Answer.{Answer}
 use Rattle.tk_types.specs.declared.task.Event.{Event}
 use Rattle.kernel_model.specs.Base.{Base, release, take_due}
-use Rattle.kernel_model.specs.Priority.{current_of, resettle}
+use Rattle.kernel_model.specs.Priority.{current_of}
 use Rattle.kernel_model.specs.SemFlags.{SemFlags, SemFlagParts, serve_sem_flag}
 use Rattle.kernel_model.specs.State.{State}
 use Rattle.kernel_model.specs.Settle.{refreshed, serve_first, served_within, settle}
 use Rattle.kernel_model.specs.Ticks.{fallen}
 use Rattle.kernel_model.specs.Waits.{IsOrderly}
-use Rattle.kernel_model.proofs.FamilyOrders.{sem_waiters_order, flag_waiters_order}
 use Rattle.kernel_model.proofs.Served.{next_served, resettle_keeps, serving, with_parts}
 use Rattle.kernel_model.proofs.StepOrders.{current_orderly, fallen_orderly, release_orderly, serving_orderly}
-use Rattle.sem_flag.specs.Parts.{AreQueued, parts_of}
+use Rattle.sem_flag.specs.Parts.{parts_of}
 
 -- ---- one serving
 
