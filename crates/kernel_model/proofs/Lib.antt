@@ -30,3 +30,6 @@ pub mod Served
 pub mod FamilyPlaces
 pub mod Settled
 pub mod Reached
+pub mod Unserved
+pub mod Standing
+pub mod Paragraph

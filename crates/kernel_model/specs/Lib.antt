@@ -27,3 +27,4 @@ pub mod Counts
 pub mod Trace
 pub mod Machine
 pub mod Rows
+pub mod Paragraph
