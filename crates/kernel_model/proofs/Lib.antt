@@ -33,3 +33,4 @@ pub mod Reached
 pub mod Unserved
 pub mod Standing
 pub mod Paragraph
+pub mod Patterns

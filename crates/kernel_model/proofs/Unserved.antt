@@ -4,6 +4,7 @@ use Rattle.std.proofs.Common.{◌≡◌, ℕ, ◌+◌, ◌≤◌, Bool, true, fa
 use Rattle.std.specs.Bool.{◌==◌}
 use Rattle.std.proofs.lemmas.Bool.Decides.{nat_tests}
 use Rattle.kernel_model.specs.declared.objects.Semaphore.{Semaphore}
+use Rattle.kernel_model.specs.declared.objects.EventFlag.{EventFlag}
 use Rattle.kernel_model.specs.Orders.{entry}
 use Rattle.kernel_model.specs.Base.{Base}
 use Rattle.kernel_model.specs.Priority.{taken_from}
@@ -111,3 +112,11 @@ unfolding serve_sem_flag
 sem_alone b s id k one at others flags =
     or_none (first_served (serve_sem b s) (taken_from 1 (drop 1 s.sems))) (first_served (serve_flag b s) (taken_from 1 (drop 1 s.flags))) (all_none (serve_flag b s) 1 (drop 1 s.flags) (omega arith) flags)
     ∙ alone_if (serve_sem b s) id k s.sems (serve_sem b s id) refl one at others
+
+-- and the same of an event flag
+pub flag_alone : (b : Base) (s : SemFlags) (id : ℕ) (k : EventFlag) → 1 ≤ id → flag_at s id ≡ Some k → ((other : ℕ) → 1 ≤ other → serve_sem b s other ≡ None) → OthersServeNone (serve_flag b s) id →
+    serve_sem_flag b s ≡ serve_flag b s id
+unfolding serve_sem_flag
+flag_alone b s id k one at sems others =
+    ap (λ first. or_else first (first_served (serve_flag b s) (taken_from 1 (drop 1 s.flags)))) (all_none (serve_sem b s) 1 (drop 1 s.sems) (omega arith) sems)
+    ∙ alone_if (serve_flag b s) id k s.flags (serve_flag b s id) refl one at others

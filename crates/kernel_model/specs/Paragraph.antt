@@ -9,13 +9,15 @@ use Rattle.tk_types.specs.declared.answer.Answer.{Answer}
 use Rattle.tk_types.specs.declared.answer.Outcome.TheVariants.{Returned, Blocked}
 use Rattle.tk_types.specs.declared.error_code.Er.TheVariants as er
 use Rattle.kernel_model.specs.declared.objects.Semaphore.{Semaphore}
+use Rattle.kernel_model.specs.declared.objects.EventFlag.{EventFlag}
+use Rattle.kernel_model.specs.declared.objects.FlagWish.{FlagWish}
 use Rattle.kernel_model.specs.Base.{make_wait}
 use Rattle.kernel_model.specs.Checks.{failed}
-use Rattle.kernel_model.specs.SemFlags.{sem_object}
+use Rattle.kernel_model.specs.SemFlags.{sem_object, flag_object}
 use Rattle.kernel_model.specs.SemFlagCalls.{SemFlagDone}
 use Rattle.kernel_model.specs.Settle.{settle}
 use Rattle.kernel_model.specs.State.{State}
-use Rattle.kernel_model.specs.Trial.{asked_count, back_in, ended_with}
+use Rattle.kernel_model.specs.Trial.{asked_count, asked_wish, back_in, ended_with}
 
 -- the answer of a task's wait, where settling ended it
 abbrev pub ended_in : ℕ → State → Option Answer
@@ -51,3 +53,26 @@ sem_after old settled t timeout = option_map_or (sem_returns old settled t) (end
 -- a task joins the waiters of a semaphore, and settling follows
 unfoldable pub sem_paragraph : State → ℕ → ℕ → ℕ → ℤ → Semaphore → SemFlagDone
 sem_paragraph st t id n timeout k = sem_after st (settle (sem_joined st t id n timeout k)) t timeout
+
+-- ---- event flags
+
+-- a task has joined the waiters of an event flag
+abbrev pub flag_joined : State → ℕ → ℕ → FlagWish → ℤ → EventFlag → State
+flag_joined st t id wish timeout k = record st {
+  base = make_wait st.base t (flag_object id) k.order timeout;
+  sem_flags = asked_wish st.sem_flags t wish;
+}
+
+abbrev pub flag_returns : State → State → ℕ → Answer → SemFlagDone
+flag_returns old settled t answer = record {
+  base = back_in old.base settled.base t;
+  table = record settled.sem_flags { wishes = old.sem_flags.wishes };
+  outcome = Returned answer;
+}
+
+abbrev pub flag_after : State → State → ℕ → ℤ → SemFlagDone
+flag_after old settled t timeout = option_map_or (flag_returns old settled t) (ended_in t settled) (over_or_waits old settled timeout)
+
+-- a task joins the waiters of an event flag, and settling follows
+unfoldable pub flag_paragraph : State → ℕ → ℕ → FlagWish → ℤ → EventFlag → SemFlagDone
+flag_paragraph st t id wish timeout k = flag_after st (settle (flag_joined st t id wish timeout k)) t timeout
