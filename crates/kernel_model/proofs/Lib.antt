@@ -31,3 +31,7 @@ pub mod FamilyPlaces
 pub mod Settled
 pub mod Reached
 pub mod Rest
+pub mod Unserved
+pub mod Standing
+pub mod Paragraph
+pub mod Patterns

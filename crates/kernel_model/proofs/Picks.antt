@@ -48,12 +48,23 @@ passed_over : (id : ℕ) (later : Option ℕ) (test : Bool) → test ≡ false �
 passed_over id later true fails = absurd (cc fails)
 passed_over id later false fails = refl
 
--- another test, that is the same but for one task that isn't there, passes nobody either
-find_alike : (passes passed : ℕ → Bool) (t : ℕ) (ids : List ℕ) → AreSameBut t passes passed → times t ids ≡ 0 → find passes ids ≡ None → find passed ids ≡ None
-find_alike passes passed t [] same absent none = refl
-find_alike passes passed t (id ∷ ids) same absent none =
-    passed_over id (find passed ids) (passed id) (same id (apart_from_first t id ids absent) ∙ first_fails_if id (find passes ids) (passes id) none)
-    ∙ find_alike passes passed t ids same (apart_from_rest t id ids absent) (later_fail_if id (find passes ids) (passes id) none)
+-- a test that passes nobody whom another one fails, but for one task
+abbrev pub PassesNoMore : ℕ → (ℕ → Bool) → (ℕ → Bool) → Type 0
+PassesNoMore t passes passed = (u : ℕ) → (u ≡ t → ⊥) → passes u ≡ false → passed u ≡ false
+
+-- where that task isn't there, it passes nobody either
+pub find_no_more : (passes passed : ℕ → Bool) (t : ℕ) (ids : List ℕ) → PassesNoMore t passes passed → times t ids ≡ 0 → find passes ids ≡ None → find passed ids ≡ None
+find_no_more passes passed t [] no_more absent none = refl
+find_no_more passes passed t (id ∷ ids) no_more absent none =
+    passed_over id (find passed ids) (passed id) (no_more id (apart_from_first t id ids absent) (first_fails_if id (find passes ids) (passes id) none))
+    ∙ find_no_more passes passed t ids no_more (apart_from_rest t id ids absent) (later_fail_if id (find passes ids) (passes id) none)
+
+-- and picks nobody
+pub pick_no_more : (any_place : Bool) (passes passed : ℕ → Bool) (t : ℕ) (ids : List ℕ) → PassesNoMore t passes passed → times t ids ≡ 0 → sem_pick any_place passes ids ≡ None → sem_pick any_place passed ids ≡ None
+pick_no_more true passes passed t ids no_more absent none = find_no_more passes passed t ids no_more absent none
+pick_no_more false passes passed t [] no_more absent none = refl
+pick_no_more false passes passed t (id ∷ ids) no_more absent none =
+    passed_over id None (passed id) (no_more id (apart_from_first t id ids absent) (first_fails_if id None (passes id) none))
 
 -- ---- the first that passes
 
@@ -71,7 +82,7 @@ find_if passed t id ids behind false none later = later
 find_inserted : (passes passed : ℕ → Bool) (key : ℕ → ℕ) (t : ℕ) (ids : List ℕ) → AreSameBut t passes passed → times t ids ≡ 0 → find passes ids ≡ None → find passed (insert_behind key t ids) ≡ this_if (passed t) t
 find_inserted passes passed key t [] same absent none = refl
 find_inserted passes passed key t (id ∷ ids) same absent none =
-    find_if passed t id ids (insert_behind key t ids) (nat_lt (key t) (key id)) (find_alike passes passed t (id ∷ ids) same absent none)
+    find_if passed t id ids (insert_behind key t ids) (nat_lt (key t) (key id)) (find_no_more passes passed t (id ∷ ids) (λ u apart fails. same u apart ∙ fails) absent none)
     (passed_over id (find passed (insert_behind key t ids)) (passed id) (same id (apart_from_first t id ids absent) ∙ first_fails_if id (find passes ids) (passes id) none)
     ∙ find_inserted passes passed key t ids same (apart_from_rest t id ids absent) (later_fail_if id (find passes ids) (passes id) none))
 

@@ -57,11 +57,11 @@ flag_none : (b c : Base) (s : SemFlags) (id : ℕ) → SameQueues b c → serve_
 unfolding serve_flag
 flag_none b c s id same none = flag_at_none b c s id (flag_at s id) same none
 
-neither : (first later : Option SemFlagParts) → or_else first later ≡ None → (first ≡ None) × (later ≡ None)
+pub neither : (first later : Option SemFlagParts) → or_else first later ≡ None → (first ≡ None) × (later ≡ None)
 neither None later none = (refl, none)
 neither (Some parts) later none = absurd (cc none)
 
-both_none : (first later : Option SemFlagParts) → first ≡ None → later ≡ None → or_else first later ≡ None
+pub both_none : (first later : Option SemFlagParts) → first ≡ None → later ≡ None → or_else first later ≡ None
 both_none None later none rest = rest
 both_none (Some parts) later none rest = absurd (cc none)
 

@@ -1,16 +1,17 @@
 -- What settling comes to: no waiter is left that can be served, and each task's current priority is that of its definition.
 -- Each serving ends a wait, taking over a changed priority ends and begins none, and no more tasks wait than have a slot.
-use Rattle.std.proofs.Common.{◌≡◌, ℕ, suc, zero, ◌+◌, ◌≤◌, Bool, true, false, List, [], ◌∷◌, Option, Some, None, length, drop, refl, cond, ◌∙◌, ap, sym, subst, arith, ◌⊎◌, inl, inr}
+use Rattle.std.proofs.Common.{◌≡◌, ℕ, suc, zero, ◌+◌, ◌≤◌, Bool, true, false, List, [], ◌∷◌, Option, Some, None, length, drop, refl, cond, ◌∙◌, ap, sym, subst, arith, ◌⊎◌, inl, inr, ℤ, pos, negsuc}
 use Rattle.std.specs.Prelude.{count_by, fold, slice_set}
 use Rattle.std.specs.Bool.{◌==◌}
 use Rattle.std.specs.Option.{option_map}
 use Rattle.std.proofs.lemmas.Bool.Decides.{nat_tests}
 use Rattle.std.proofs.lemmas.List.Sums.{count_by-le-length}
 use Rattle.tk_types.specs.declared.answer.Answer.{Answer}
+use Rattle.tk_types.specs.declared.task.Order.{Order}
 use Rattle.tk_types.specs.declared.task.Task.{Task}
-use Rattle.tk_types.specs.declared.task.Phase.TheVariants.{Ready}
+use Rattle.tk_types.specs.declared.task.Phase.TheVariants.{Ready, Waiting}
 use Rattle.kernel_model.specs.Orders.{entry}
-use Rattle.kernel_model.specs.Base.{Base, task_at, base_in, base_of, current, current_in, is_waiting_phase, waits_somewhere, release, set_current}
+use Rattle.kernel_model.specs.Base.{Base, task_at, base_in, base_of, current, current_in, is_waiting_phase, waits_somewhere, make_wait, release, set_current}
 use Rattle.kernel_model.specs.Priority.{current_of, refresh, resettle, taken_from}
 use Rattle.kernel_model.specs.SemFlags.{SemFlags, SemFlagParts, serve_sem_flag}
 use Rattle.kernel_model.specs.Settle.{refreshed, served_within, settle}
@@ -80,6 +81,10 @@ settle_unserved st slots =
 abbrev pub IsUpToDate : ℕ → Base → Type 0
 IsUpToDate t b = current b t ≡ current_of b t
 
+-- and each task's is
+abbrev pub AllUpToDate : Base → Type 0
+AllUpToDate b = (t : ℕ) → 1 ≤ t → IsUpToDate t b
+
 -- the same of its row
 abbrev FitsBase : Option Task → Type 0
 FitsBase o = current_in o ≡ base_in o
@@ -104,7 +109,7 @@ others_if b t u true is = is
 others_if b t u false is = current_up_to_date b t u is
 
 -- a task stands among these
-abbrev Stands : ℕ → List ℕ → Type 0
+abbrev pub Stands : ℕ → List ℕ → Type 0
 Stands t [] = ⊥
 Stands t (first ∷ ids) = (first ≡ t) ⊎ Stands t ids
 
@@ -129,7 +134,7 @@ free_or_stands from (suc place) (Some k ∷ slots) = behind (let next : from + 1
     behind (inl free) = inl free
     behind (inr stands) = inr (inr stands)
 
-in_table : {A : Type 0} → (t : ℕ) (tasks : List (Option A)) → 1 ≤ t → (entry tasks t ≡ None) ⊎ Stands t (taken_from 1 (drop 1 tasks))
+pub in_table : {A : Type 0} → (t : ℕ) (tasks : List (Option A)) → 1 ≤ t → (entry tasks t ≡ None) ⊎ Stands t (taken_from 1 (drop 1 tasks))
 in_table t [] one = inl refl
 in_table zero (slot ∷ tasks) one = absurd (omega (arith, one))
 in_table (suc place) (slot ∷ tasks) one = let next : 1 + place ≡ suc place = omega arith in subst (λ (t : ℕ). (entry tasks place ≡ None) ⊎ Stands t (taken_from 1 tasks)) next (free_or_stands 1 place tasks)
@@ -138,21 +143,50 @@ free_up_to_date : (b : Base) (t : ℕ) (ids : List ℕ) → (task_at b t ≡ Non
 free_up_to_date b t ids (inl free) = inl (ap current_in free ∙ sym (ap base_in free))
 free_up_to_date b t ids (inr stands) = inr stands
 
+same_if : (b c : Base) (same : Bool) → same ≡ true → cond same b c ≡ b
+same_if b c true is = refl
+same_if b c false is = absurd (cc is)
+
+refresh_same : (b : Base) (t : ℕ) → IsUpToDate t b → refresh b t ≡ b
+refresh_same b t is = same_if b (set_current b t (current_of b t)) (current b t == current_of b t) (grind (arith, nat_tests, is))
+
+each_same : {A : Type 0} → (b : Base) (from : ℕ) (slots : List (Option A)) → 1 ≤ from → AllUpToDate b → fold refresh b (taken_from from slots) ≡ b
+each_same b from [] one all = refl
+each_same b from (None ∷ slots) one all = each_same b (from + 1) slots (omega (arith, one)) all
+each_same b from (Some k ∷ slots) one all =
+    ap (λ c. fold refresh c (taken_from (from + 1) slots)) (refresh_same b from (all from one))
+    ∙ each_same b (from + 1) slots (omega (arith, one)) all
+
+-- where each task's is, nothing is to take over
+pub resettled_same : (b : Base) → AllUpToDate b → resettle b ≡ b
+unfolding resettle
+resettled_same b all = each_same b 1 (drop 1 b.tasks) (omega arith) all
+
 resettled_up_to_date : (b : Base) (t : ℕ) → 1 ≤ t → IsUpToDate t (resettle b)
 unfolding resettle
 resettled_up_to_date b t one = let ids : List ℕ = taken_from 1 (drop 1 b.tasks) in each_up_to_date t ids b (free_up_to_date b t ids (in_table t b.tasks one))
 
+-- a row that keeps both priorities
+row_up_to_date : (b : Base) (t u : ℕ) (k : Task) (o : Option Task) → task_at b t ≡ Some k → current_in o ≡ k.current → base_in o ≡ k.base → IsUpToDate u b → FitsBase (entry (slice_set b.tasks t o) u)
+row_up_to_date b t u k o at now_current now_base is =
+    entry_each (λ v now. v ≡ u → FitsBase now) b.tasks t o
+    (λ same. entry_same FitsBase b.tasks t o (now_current ∙ ap current_in (sym at) ∙ subst (λ (w : ℕ). FitsBase (task_at b w)) (sym same) is ∙ ap base_in at ∙ sym now_base) refl)
+    (λ v apart same. subst (λ (w : ℕ). FitsBase (task_at b w)) (sym same) is) u refl
+
 -- the end of a wait changes no priority
-released_up_to_date : (b : Base) (t u : ℕ) (answer : Answer) → IsUpToDate u b → IsUpToDate u (release b t answer)
+pub released_up_to_date : (b : Base) (t u : ℕ) (answer : Answer) → IsUpToDate u b → IsUpToDate u (release b t answer)
 released_up_to_date b t u answer is = entry_cases (IsUpToDate u) (task_at b t) b _ is
     (λ k at. if_waits b k _ (is_waiting_phase k.phase) is
-    (entry_each (λ v now. v ≡ u → FitsBase now) b.tasks t (Some (record k { phase = Ready }))
-    (λ same. entry_same FitsBase b.tasks t (Some (record k { phase = Ready })) (ap current_in (sym at) ∙ subst (λ (w : ℕ). FitsBase (task_at b w)) (sym same) is ∙ ap base_in at) refl)
-    (λ v apart same. subst (λ (w : ℕ). FitsBase (task_at b w)) (sym same) is) u refl))
+    (row_up_to_date b t u k (Some (record k { phase = Ready })) at refl refl is))
   where
     if_waits : (b : Base) (k : Task) (c : Base) (waits : Bool) → IsUpToDate u b → IsUpToDate u c → IsUpToDate u (cond waits c b)
     if_waits b k c true idle over = over
     if_waits b k c false idle over = idle
+
+-- nor does the beginning of one
+pub waiting_up_to_date : (b : Base) (t u object : ℕ) (order : Order) (timeout : ℤ) → IsUpToDate u b → IsUpToDate u (make_wait b t object order timeout)
+waiting_up_to_date b t u object order (pos n) is = entry_cases (IsUpToDate u) (task_at b t) b _ is (λ k at. row_up_to_date b t u k (Some (record k { phase = Waiting object; queue = order })) at refl refl is)
+waiting_up_to_date b t u object order (negsuc n) is = entry_cases (IsUpToDate u) (task_at b t) b _ is (λ k at. row_up_to_date b t u k (Some (record k { phase = Waiting object; queue = order })) at refl refl is)
 
 serving_up_to_date : (t : ℕ) (b : Base) (s : SemFlags) (parts : SemFlagParts) → IsServing b s parts → IsUpToDate t b → IsUpToDate t parts.base
 serving_up_to_date t b s parts served is = subst (IsUpToDate t) (sym served.ends) (released_up_to_date b served.task t served.answer is)

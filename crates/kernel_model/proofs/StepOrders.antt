@@ -1,18 +1,16 @@
 -- Every step leaves the tasks that wait in the order of what they wait for: each waits for an object that there is, and
 -- queues as that object says.
-use Rattle.std.proofs.Common.{◌≡◌, ℕ, suc, zero, Option, Some, None, refl, sym, subst}
+use Rattle.std.proofs.Common.{ℕ, Option, Some, None, refl, sym, subst}
 use Rattle.std.specs.Prelude.{replicate}
 use Rattle.tk_types.specs.declared.script.Script.{Script}
 use Rattle.tk_types.specs.declared.task.Task.{Task}
 use Rattle.tk_types.specs.declared.task.Order.TheVariants.{Fifo}
 use Rattle.tk_types.specs.declared.task.Phase.TheVariants.{Ready}
 use Rattle.tk_types.specs.declared.task.Event.{Event as DueKind}
-use Rattle.kernel_model.specs.Orders.{entry}
 use Rattle.kernel_model.specs.Base.{Base, base_start, release, set_current}
 use Rattle.kernel_model.specs.Priority.{current_of}
 use Rattle.kernel_model.specs.SemFlags.{SemFlags, SemFlagParts}
 use Rattle.kernel_model.specs.State.{State, state_start}
-use Rattle.kernel_model.specs.Settle.{settle}
 use Rattle.kernel_model.specs.Ticks.{fallen}
 use Rattle.kernel_model.specs.Step.{done_at, paced, worked}
 use Rattle.kernel_model.specs.Trace.{start}

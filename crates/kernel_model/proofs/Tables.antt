@@ -1,5 +1,5 @@
 -- What is read of a table after one slot was written.
-use Rattle.std.proofs.Common.{◌≡◌, ℕ, suc, zero, Bool, true, false, List, [], ◌∷◌, Option, Some, None, refl, ap, sym, subst, arith}
+use Rattle.std.proofs.Common.{◌≡◌, ℕ, suc, zero, ◌≤◌, ◌<◌, length, Bool, true, false, List, [], ◌∷◌, Option, Some, None, refl, ap, sym, subst, arith}
 use Rattle.std.specs.Prelude.{replicate, slice_get, slice_set}
 use Rattle.std.specs.Bool.{◌==◌}
 use Rattle.std.specs.Option.{option_flatten}
@@ -34,6 +34,18 @@ pub entry_there : {A : Type 0} → (xs : List (Option A)) (i : ℕ) (k : A) (y :
 entry_there [] i k y there = absurd (cc there)
 entry_there (x ∷ xs) zero k y there = refl
 entry_there (x ∷ xs) (suc i) k y there = entry_there xs i k y there
+
+-- and one of which the table has no such slot has nothing
+pub entry_beyond : {A : Type 0} → (xs : List (Option A)) (i : ℕ) → length xs ≤ i → entry xs i ≡ None
+entry_beyond [] i beyond = refl
+entry_beyond (x ∷ xs) zero beyond = absurd (omega (arith, beyond))
+entry_beyond (x ∷ xs) (suc i) beyond = entry_beyond xs i (omega (arith, beyond))
+
+-- what has something isn't beyond
+pub entry_inside : {A : Type 0} → (xs : List (Option A)) (i : ℕ) (k : A) → entry xs i ≡ Some k → i < length xs
+entry_inside [] i k there = absurd (cc there)
+entry_inside (x ∷ xs) zero k there = omega arith
+entry_inside (x ∷ xs) (suc i) k there = let inside : i < length xs = entry_inside xs i k there in omega (arith, inside)
 
 by_test : {A : Type 0} → (P : ℕ → Option A → Type 0) (xs : List (Option A)) (i j : ℕ) (y : Option A) (b : Bool) → (j == i) ≡ b → P i (entry (slice_set xs i y) i) → ((j ≡ i → ⊥) → P j (entry xs j)) → P j (entry (slice_set xs i y) j)
 by_test P xs i j y true is same other = let e : i ≡ j = grind (arith, nat_tests, is) in subst (λ (n : ℕ). P n (entry (slice_set xs i y) n)) e same

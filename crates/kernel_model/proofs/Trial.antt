@@ -29,12 +29,12 @@ use Rattle.kernel_model.proofs.Picks.{joined, this_if, find_joined, pick_joined}
 
 -- ---- the queue
 
-ready_for_none : (b : Base) (t object : ℕ) (may : MayWait b t) → waits_for b object t ≡ false
+pub ready_for_none : (b : Base) (t object : ℕ) (may : MayWait b t) → waits_for b object t ≡ false
 ready_for_none b t object may = ap (waiting_in object) may.there ∙ ap (waits_in object) may.ready
 
-queue_joined : (order : Order) (b : Base) (t object : ℕ) (timeout : ℤ) → MayWait b t → queue order (make_wait b t object order timeout) object ≡ joined order (current b) t (queue order b object)
-queue_joined Fifo b t object timeout may = fifo_wait b t object Fifo timeout may.row may.there (ready_for_none b t object may)
-queue_joined Priority b t object timeout may = priority_wait b t object Priority timeout may.row may.there (ready_for_none b t object may)
+pub queue_joined : (by : Order) (b : Base) (t object : ℕ) (order : Order) (timeout : ℤ) → MayWait b t → queue by (make_wait b t object order timeout) object ≡ joined by (current b) t (queue by b object)
+queue_joined Fifo b t object order timeout may = fifo_wait b t object order timeout may.row may.there (ready_for_none b t object may)
+queue_joined Priority b t object order timeout may = priority_wait b t object order timeout may.row may.there (ready_for_none b t object may)
 
 -- ---- the base
 
@@ -79,29 +79,29 @@ base_back b t object order (negsuc n) result may =
     (rows_back b t (Some waits) (Some (record waits { phase = Ready })) (without_wait t (without_wait t b.events)) (ap (without_wait t) may.unset ∙ may.unset)))
 
 -- a task that joined waits
-joined_waits : (b : Base) (t object : ℕ) (order : Order) (timeout : ℤ) → MayWait b t → is_waiting (make_wait b t object order timeout) t ≡ true
+pub joined_waits : (b : Base) (t object : ℕ) (order : Order) (timeout : ℤ) → MayWait b t → is_waiting (make_wait b t object order timeout) t ≡ true
 joined_waits b t object order (pos n) may = entry_at (λ c. is_waiting c t ≡ true) (task_at b t) may.row b _ may.there (ap waits_somewhere (entry_there b.tasks t may.row (Some (record may.row { phase = Waiting object; queue = order })) may.there))
 joined_waits b t object order (negsuc n) may = entry_at (λ c. is_waiting c t ≡ true) (task_at b t) may.row b _ may.there (ap waits_somewhere (entry_there b.tasks t may.row (Some (record may.row { phase = Waiting object; queue = order })) may.there))
 
 -- ---- semaphores
 
-sem_unserved : (b : Base) (s : SemFlags) (id : ℕ) (k : Semaphore) (o : Option ℕ) → serve_sem_of b s id k o ≡ None → o ≡ None
+pub sem_unserved : (b : Base) (s : SemFlags) (id : ℕ) (k : Semaphore) (o : Option ℕ) → serve_sem_of b s id k o ≡ None → o ≡ None
 sem_unserved b s id k None none = refl
 sem_unserved b s id k (Some t) none = absurd (cc none)
 
 -- where a semaphore can serve nobody, nobody is picked of its waiters
-sem_settled : (b : Base) (s : SemFlags) (id : ℕ) (k : Semaphore) → sem_at s id ≡ Some k → serve_sem b s id ≡ None → sem_served s k b id ≡ None
+pub sem_settled : (b : Base) (s : SemFlags) (id : ℕ) (k : Semaphore) → sem_at s id ≡ Some k → serve_sem b s id ≡ None → sem_served s k b id ≡ None
 unfolding serve_sem
 sem_settled b s id k at none = sem_unserved b s id k (sem_served s k b id) (ap (serve_sem_at b s id) (sym at) ∙ none)
 
-count_asked : (s : SemFlags) (t n : ℕ) → t < length s.counts → count_of (asked_count s t n) t ≡ n
+pub count_asked : (s : SemFlags) (t n : ℕ) → t < length s.counts → count_of (asked_count s t n) t ≡ n
 count_asked s t n inside = get_or-set_same s.counts t n 0 inside
 
 -- once the task has joined, it is served exactly where it is served at once
-sem_served_joined : (b : Base) (s : SemFlags) (t id n : ℕ) (timeout : ℤ) (k : Semaphore) → MayWait b t → t < length s.counts → sem_served s k b id ≡ None →
+pub sem_served_joined : (b : Base) (s : SemFlags) (t id n : ℕ) (timeout : ℤ) (k : Semaphore) → MayWait b t → t < length s.counts → sem_served s k b id ≡ None →
     sem_served (asked_count s t n) k (make_wait b t (sem_object id) k.order timeout) id ≡ this_if (serves_at_once b k id t n) t
 sem_served_joined b s t id n timeout k may inside none =
-    ap (λ waiters. sem_pick k.any_place (is_there (asked_count s t n) k) waiters) (queue_joined k.order b t (sem_object id) timeout may)
+    ap (λ waiters. sem_pick k.any_place (is_there (asked_count s t n) k) waiters) (queue_joined k.order b t (sem_object id) k.order timeout may)
     ∙ pick_joined k.any_place k.order b (is_there s k) (is_there (asked_count s t n) k) t (sem_waiters b k id)
     (λ u apart. ap (λ count. nat_le count k.count) (get_or-set_other s.counts t u n 0 apart)) (queue_absent k.order b t (sem_object id) (ready_for_none b t (sem_object id) may)) none
     ∙ ap (λ count. this_if (nat_le count k.count && (k.any_place || would_be_first k.order b t (sem_waiters b k id))) t) (count_asked s t n inside)
@@ -130,23 +130,23 @@ sem_call_is_trial b s t id n timeout k may at inside none =
 
 -- ---- event flags
 
-flag_unserved : (b : Base) (s : SemFlags) (id : ℕ) (k : EventFlag) (o : Option ℕ) → serve_flag_of b s id k o ≡ None → o ≡ None
+pub flag_unserved : (b : Base) (s : SemFlags) (id : ℕ) (k : EventFlag) (o : Option ℕ) → serve_flag_of b s id k o ≡ None → o ≡ None
 flag_unserved b s id k None none = refl
 flag_unserved b s id k (Some t) none = absurd (cc none)
 
 -- where a flag can serve nobody, nobody is picked of its waiters
-flag_settled : (b : Base) (s : SemFlags) (id : ℕ) (k : EventFlag) → flag_at s id ≡ Some k → serve_flag b s id ≡ None → flag_served s k b id ≡ None
+pub flag_settled : (b : Base) (s : SemFlags) (id : ℕ) (k : EventFlag) → flag_at s id ≡ Some k → serve_flag b s id ≡ None → flag_served s k b id ≡ None
 unfolding serve_flag
 flag_settled b s id k at none = flag_unserved b s id k (flag_served s k b id) (ap (serve_flag_at b s id) (sym at) ∙ none)
 
-wish_asked : (s : SemFlags) (t : ℕ) (wish : FlagWish) → t < length s.wishes → wish_of (asked_wish s t wish) t ≡ wish
+pub wish_asked : (s : SemFlags) (t : ℕ) (wish : FlagWish) → t < length s.wishes → wish_of (asked_wish s t wish) t ≡ wish
 wish_asked s t wish inside = get_or-set_same s.wishes t wish no_wish inside
 
 -- once the task has joined, it is served exactly where the pattern has its bits
-flag_served_joined : (b : Base) (s : SemFlags) (t id : ℕ) (wish : FlagWish) (timeout : ℤ) (k : EventFlag) → MayWait b t → t < length s.wishes → flag_served s k b id ≡ None →
+pub flag_served_joined : (b : Base) (s : SemFlags) (t id : ℕ) (wish : FlagWish) (timeout : ℤ) (k : EventFlag) → MayWait b t → t < length s.wishes → flag_served s k b id ≡ None →
     flag_served (asked_wish s t wish) k (make_wait b t (flag_object id) k.order timeout) id ≡ this_if (has_bits k.pattern wish) t
 flag_served_joined b s t id wish timeout k may inside none =
-    ap (λ waiters. find (is_fulfilled (asked_wish s t wish) k) waiters) (queue_joined k.order b t (flag_object id) timeout may)
+    ap (λ waiters. find (is_fulfilled (asked_wish s t wish) k) waiters) (queue_joined k.order b t (flag_object id) k.order timeout may)
     ∙ find_joined k.order (is_fulfilled s k) (is_fulfilled (asked_wish s t wish) k) (current b) t (flag_waiters b k id)
     (λ u apart. ap (λ asked. has_bits k.pattern asked) (get_or-set_other s.wishes t u wish no_wish apart)) (queue_absent k.order b t (flag_object id) (ready_for_none b t (flag_object id) may)) none
     ∙ ap (λ asked. this_if (has_bits k.pattern asked) t) (wish_asked s t wish inside)

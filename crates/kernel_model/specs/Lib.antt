@@ -28,3 +28,4 @@ pub mod Counts
 pub mod Trace
 pub mod Machine
 pub mod Rows
+pub mod Paragraph

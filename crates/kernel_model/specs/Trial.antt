@@ -1,7 +1,8 @@
--- The paragraph on waiting calls, for semaphores and event flags: the caller joins the waiters of the object, and the
--- object serves one, if it can. If that ended the caller's wait, the call returns, and the caller has its old stamp again.
--- If not, with a time-out of 0 everything is as before the call, and the answer is E_TMOUT; else the task waits.
--- `SemFlagCalls` decides at the object without a trial; the law `a_waiting_call_is_its_trial` ties the two.
+-- The paragraph on waiting calls, for semaphores and event flags, at the object alone: the caller joins the waiters of the
+-- object, and the object serves one, if it can. If that ended the caller's wait, the call returns, and the caller has its
+-- old stamp again. If not, with a time-out of 0 everything is as before the call, and the answer is E_TMOUT; else the task
+-- waits. `SemFlagCalls` decides at the object without a trial; the law `a_waiting_call_is_its_trial` ties the two.
+-- `Paragraph` has the same with the whole of settling.
 use Rattle.std.specs.Prelude.{ℕ, ◌≡◌, ◌==◌, if◌then◌else◌, ℤ, Option, Some, None, slice_set}
 use Rattle.std.specs.List.{find}
 use Rattle.std.specs.Option.{option_map, option_map_or}

@@ -23,6 +23,7 @@ ghost use Rattle.kernel_model.specs.Checks.{failed};
 ghost use Rattle.kernel_model.specs.Events.{due_event, insert_event, limit_of};
 ghost use Rattle.kernel_model.specs.Once.{IsOnce, times};
 ghost use Rattle.kernel_model.specs.Orders.{without};
+ghost use Rattle.kernel_model.specs.Paragraph.{flag_paragraph, sem_paragraph};
 ghost use Rattle.kernel_model.specs.Precedence.{KeepsPlace, NoneReady, Precedes, StandsLast, gives_place_away};
 ghost use Rattle.kernel_model.specs.Priority.{current_of};
 ghost use Rattle.kernel_model.specs.Rest.{IsAtRest};
@@ -167,6 +168,23 @@ pub fn a_waiting_call_is_its_trial()
     ensures event_flag { (b : Base) (s : SemFlags) (t id : ℕ) (wish : FlagWish) (timeout : ℤ) (k : EventFlag) → MayWait b t →
         flag_at s id ≡ Some k → t < length s.wishes → serve_flag b s id ≡ None →
         waited_for_flag b s t id wish timeout (Some k) ≡ flag_trial b s t id wish timeout k }
+{}
+
+/// A waiting call does what the paragraph on waiting calls says, with the whole of settling: the caller joins the waiters,
+/// and settling follows; if that ended the caller's wait the call returns and the caller has its old stamp, and if not,
+/// with a time-out of 0 everything is as before the call and the answer is E_TMOUT, and else the task waits. That holds on
+/// every settled state: nobody can be served, and each current priority is that of its definition. The caller is ready and
+/// has a place in the table of what tasks ask for; the table of semaphores has 65 slots at most, so that none has the
+/// number of an event flag, and the IDs of objects and tasks begin at 1.
+pub fn a_waiting_call_is_the_paragraph()
+    ensures semaphore { (st : State) (t id n : ℕ) (timeout : ℤ) (k : Semaphore) → MayWait st.base t →
+        sem_at st.sem_flags id ≡ Some k → 1 ≤ id → length st.sem_flags.sems ≤ 65 → t < length st.sem_flags.counts →
+        serve_sem_flag st.base st.sem_flags ≡ None → ((u : ℕ) → 1 ≤ u → current st.base u ≡ current_of st.base u) →
+        waited_for_sem st.base st.sem_flags t id n timeout (Some k) ≡ sem_paragraph st t id n timeout k }
+    ensures event_flag { (st : State) (t id : ℕ) (wish : FlagWish) (timeout : ℤ) (k : EventFlag) → MayWait st.base t →
+        flag_at st.sem_flags id ≡ Some k → 1 ≤ id → length st.sem_flags.sems ≤ 65 → t < length st.sem_flags.wishes →
+        serve_sem_flag st.base st.sem_flags ≡ None → ((u : ℕ) → 1 ≤ u → current st.base u ≡ current_of st.base u) →
+        waited_for_flag st.base st.sem_flags t id wish timeout (Some k) ≡ flag_paragraph st t id wish timeout k }
 {}
 
 /// With a time-out of 0 a waiting call that isn't served changes nothing: where a semaphore doesn't have the count that is
