@@ -300,7 +300,7 @@ answered_within m t k st v c _ is = is
 made_within : (m t k : ℕ) (st : State) (v : ℕ) (c : Call) → Within m t k st → Within (m + 1) t k (family_call st v c).state
 unfolding family_call
 made_within m t k st v (calls.Task c) is = (call_few m t st.base (whos.Task v) c is.0, is.1)
-made_within m t k st v (calls.SemFlag c) is = (sem_flag_few m t st.base st.sem_flags (whos.Task v) c is.0, is.1)
+made_within m t k st v (calls.SemFlag c) is = (sem_flag_few m t st.base st.objects.sem_flags (whos.Task v) c is.0, is.1)
 made_within m t k st v _ is = (more m t st.base is.0, is.1)
 
 called_within : (m t k n : ℕ) (st : State) (v : ℕ) (c : Call) → Within m t k st → Within (m + 1) t k (called n st v c).state

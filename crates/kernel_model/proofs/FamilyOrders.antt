@@ -30,6 +30,7 @@ use Rattle.kernel_model.specs.SemFlags.{SemFlags, sem_at, flag_at, sem_object, f
 use Rattle.kernel_model.specs.SemFlagCalls
 use Rattle.kernel_model.specs.SemFlagCalls.{SemFlagDone, refused_with, sem_flag_checked, sem_flag_call, create_sem, create_flag, delete_sem, delete_flag, signal_sem, set_flag, clear_flag, refer_sem, refer_flag, wait_sem, wait_flag, free_sem, free_flag, first_ended, end_first, end_waits, sem_waits_ended, flag_waits_ended, signalled, repatterned, serves_at_once, waits_or_ends, waited_for_sem, waited_for_flag}
 use Rattle.kernel_model.specs.Queues.{AreOfOrder, queue_in}
+use Rattle.kernel_model.specs.Objects.{Objects}
 use Rattle.kernel_model.specs.Waits.{FitsPhase, FitsRow, HavePlaces, IsOrderly, order_for}
 use Rattle.kernel_model.proofs.Checked.{sem_flag_cases, holds_at}
 use Rattle.kernel_model.proofs.Once.{times_append}
@@ -37,7 +38,7 @@ use Rattle.kernel_model.proofs.Queues.{queue_release}
 use Rattle.kernel_model.proofs.ReadyLists.{times_filter_is}
 use Rattle.kernel_model.proofs.Releases.{release_others, release_over}
 use Rattle.kernel_model.proofs.Serving.{waits_for_waits}
-use Rattle.kernel_model.proofs.Served.{sem_orders, flag_orders}
+use Rattle.kernel_model.proofs.Served.{flag_orders, orders_with, sem_orders}
 use Rattle.kernel_model.proofs.Sorting.{times_sort}
 use Rattle.kernel_model.proofs.Tables.{entry_cases, entry_each}
 use Rattle.kernel_model.proofs.WaitOrders.{AreRight, Orders, release_fits, wait_fits}
@@ -99,14 +100,14 @@ abbrev flag_order : Option EventFlag → Option Order
 flag_order slot = option_map (λ k. k.order) slot
 
 -- writing the slot of a semaphore leaves the orders of all other objects
-sem_apart : (s : SemFlags) (id : ℕ) (slot : Option Semaphore) (object : ℕ) → (object ≡ sem_object id → ⊥) → order_for (with_sem s id slot) object ≡ order_for s object
-sem_apart s id slot object apart =
+sem_apart : (o : Objects) (s : SemFlags) (id : ℕ) (slot : Option Semaphore) (object : ℕ) → (object ≡ sem_object id → ⊥) → orders_with o (with_sem s id slot) object ≡ orders_with o s object
+sem_apart o s id slot object apart =
     choice_at (nat_lt object 2) (nat_le 64 object && nat_lt object 128) (nat_le 128 object && nat_lt object 192) (Some Fifo) (sem_order (sem_at s (object - 63))) _ (sem_order (sem_at (with_sem s id slot) (object - 63))) _
     (λ later own. sym (ap sem_order (entry_each (λ i now. (i ≡ id → ⊥) → now ≡ entry s.sems i) s.sems id slot (λ differs. absurd (differs refl)) (λ i other differs. refl) (object - 63) (λ e. apart (sem_id object id own e)))))
     (λ other own. refl)
 
-flag_apart : (s : SemFlags) (id : ℕ) (slot : Option EventFlag) (object : ℕ) → (object ≡ flag_object id → ⊥) → order_for (with_flag s id slot) object ≡ order_for s object
-flag_apart s id slot object apart =
+flag_apart : (o : Objects) (s : SemFlags) (id : ℕ) (slot : Option EventFlag) (object : ℕ) → (object ≡ flag_object id → ⊥) → orders_with o (with_flag s id slot) object ≡ orders_with o s object
+flag_apart o s id slot object apart =
     choice_at (nat_lt object 2) (nat_le 64 object && nat_lt object 128) (nat_le 128 object && nat_lt object 192) (Some Fifo) _ (flag_order (flag_at s (object - 127))) _ (flag_order (flag_at (with_flag s id slot) (object - 127)))
     (λ later own. refl)
     (λ other own. sym (ap flag_order (entry_each (λ i now. (i ≡ id → ⊥) → now ≡ entry s.flags i) s.flags id slot (λ differs. absurd (differs refl)) (λ i other differs. refl) (object - 127) (λ e. apart (flag_id object id own e)))))
@@ -146,16 +147,16 @@ none_to_some : (orders now : Orders) (object : ℕ) (by : Order) → orders obje
 none_to_some orders now object by none some = absurd (cc (none, some))
 
 -- the number of the object of an ID in its range
-sem_order_is : (s : SemFlags) (id : ℕ) → 1 ≤ id → id ≤ 64 → order_for s (sem_object id) ≡ sem_order (sem_at s id)
-sem_order_is s id one last =
+sem_order_is : (o : Objects) (s : SemFlags) (id : ℕ) → 1 ≤ id → id ≤ 64 → orders_with o s (sem_object id) ≡ sem_order (sem_at s id)
+sem_order_is o s id one last =
     let task : nat_lt (63 + id) 2 ≡ false = grind (arith, nat_tests, one) in
     let low : nat_le 64 (63 + id) ≡ true = grind (arith, nat_tests, one) in
     let high : nat_lt (63 + id) 128 ≡ true = grind (arith, nat_tests, last) in
     let back : 63 + id - 63 ≡ id = omega arith in
     rw (task, low, high, back) refl
 
-flag_order_is : (s : SemFlags) (id : ℕ) → 1 ≤ id → id ≤ 64 → order_for s (flag_object id) ≡ flag_order (flag_at s id)
-flag_order_is s id one last =
+flag_order_is : (o : Objects) (s : SemFlags) (id : ℕ) → 1 ≤ id → id ≤ 64 → orders_with o s (flag_object id) ≡ flag_order (flag_at s id)
+flag_order_is o s id one last =
     let task : nat_lt (127 + id) 2 ≡ false = grind (arith, nat_tests, one) in
     let over : nat_lt (127 + id) 128 ≡ false = grind (arith, nat_tests, one) in
     let sem : (nat_le 64 (127 + id) && nat_lt (127 + id) 128) ≡ false = both_false (nat_le 64 (127 + id)) (nat_lt (127 + id) 128) over in
@@ -175,16 +176,16 @@ choice_grown false false true a b c d e by one two is = two refl is
 choice_grown false false false a b c d e by one two is = is
 
 -- a semaphore that is made at a free ID leaves the orders of what can be waited for
-sem_made : (s : SemFlags) (id : ℕ) (slot : Option Semaphore) → (1 ≤ id → sem_at s id ≡ None) → (object : ℕ) (by : Order) → order_for s object ≡ Some by → order_for (with_sem s id slot) object ≡ Some by
-sem_made s id slot free object by is =
+sem_made : (o : Objects) (s : SemFlags) (id : ℕ) (slot : Option Semaphore) → (1 ≤ id → sem_at s id ≡ None) → (object : ℕ) (by : Order) → orders_with o s object ≡ Some by → orders_with o (with_sem s id slot) object ≡ Some by
+sem_made o s id slot free object by is =
     choice_grown (nat_lt object 2) (nat_le 64 object && nat_lt object 128) (nat_le 128 object && nat_lt object 192) (Some Fifo) (sem_order (sem_at s (object - 63))) _ (sem_order (sem_at (with_sem s id slot) (object - 63))) _ by
     (λ own. let low = both_true (nat_le 64 object) (nat_lt object 128) own in let above : nat_le 64 object ≡ true = low.0 in
     entry_each (λ i now. 1 ≤ i → sem_order (entry s.sems i) ≡ Some by → sem_order now ≡ Some by) s.sems id slot
     (λ one some. let none = ap sem_order (free one) in absurd (cc (none, some))) (λ i other one some. some) (object - 63) (grind (arith, nat_tests, above)))
     (λ own there. there) is
 
-flag_made : (s : SemFlags) (id : ℕ) (slot : Option EventFlag) → (1 ≤ id → flag_at s id ≡ None) → (object : ℕ) (by : Order) → order_for s object ≡ Some by → order_for (with_flag s id slot) object ≡ Some by
-flag_made s id slot free object by is =
+flag_made : (o : Objects) (s : SemFlags) (id : ℕ) (slot : Option EventFlag) → (1 ≤ id → flag_at s id ≡ None) → (object : ℕ) (by : Order) → orders_with o s object ≡ Some by → orders_with o (with_flag s id slot) object ≡ Some by
+flag_made o s id slot free object by is =
     choice_grown (nat_lt object 2) (nat_le 64 object && nat_lt object 128) (nat_le 128 object && nat_lt object 192) (Some Fifo) _ (flag_order (flag_at s (object - 127))) _ (flag_order (flag_at (with_flag s id slot) (object - 127))) by
     (λ own there. there)
     (λ own. let low = both_true (nat_le 128 object) (nat_lt object 192) own in let above : nat_le 128 object ≡ true = low.0 in
@@ -302,17 +303,17 @@ ended_fits orders zero order object b all = all
 ended_fits orders (suc left) order object b all = ended_fits orders left order object (first_ended (queue order b object) b) (first_fits orders (queue order b object) b all)
 
 -- a semaphore that is deleted, or wasn't there
-sem_deleted : (b : Base) (s : SemFlags) (id : ℕ) (slot : Option Semaphore) → sem_at s id ≡ slot → HavePlaces b → AreRight (order_for s) b → AreRight (order_for (with_sem s id None)) (sem_waits_ended b id slot)
-sem_deleted b s id None at has all = right_grown (order_for s) (order_for (with_sem s id None)) b (sem_made s id None (λ one. at)) all
-sem_deleted b s id (Some k) at has all =
+sem_deleted : (o : Objects) (b : Base) (s : SemFlags) (id : ℕ) (slot : Option Semaphore) → sem_at s id ≡ slot → HavePlaces b → AreRight (orders_with o s) b → AreRight (orders_with o (with_sem s id None)) (sem_waits_ended b id slot)
+sem_deleted o b s id None at has all = right_grown (orders_with o s) (orders_with o (with_sem s id None)) b (sem_made o s id None (λ one. at)) all
+sem_deleted o b s id (Some k) at has all =
     let c : Base = end_waits k.order (sem_object id) b in
-    right_lessened (order_for s) (order_for (with_sem s id None)) (sem_object id) c (sem_apart s id None) (ended_idle k.order (sem_object id) b has) (ended_fits (order_for s) (length (queue k.order b (sem_object id))) k.order (sem_object id) b all)
+    right_lessened (orders_with o s) (orders_with o (with_sem s id None)) (sem_object id) c (sem_apart o s id None) (ended_idle k.order (sem_object id) b has) (ended_fits (orders_with o s) (length (queue k.order b (sem_object id))) k.order (sem_object id) b all)
 
-flag_deleted : (b : Base) (s : SemFlags) (id : ℕ) (slot : Option EventFlag) → flag_at s id ≡ slot → HavePlaces b → AreRight (order_for s) b → AreRight (order_for (with_flag s id None)) (flag_waits_ended b id slot)
-flag_deleted b s id None at has all = right_grown (order_for s) (order_for (with_flag s id None)) b (flag_made s id None (λ one. at)) all
-flag_deleted b s id (Some k) at has all =
+flag_deleted : (o : Objects) (b : Base) (s : SemFlags) (id : ℕ) (slot : Option EventFlag) → flag_at s id ≡ slot → HavePlaces b → AreRight (orders_with o s) b → AreRight (orders_with o (with_flag s id None)) (flag_waits_ended b id slot)
+flag_deleted o b s id None at has all = right_grown (orders_with o s) (orders_with o (with_flag s id None)) b (flag_made o s id None (λ one. at)) all
+flag_deleted o b s id (Some k) at has all =
     let c : Base = end_waits k.order (flag_object id) b in
-    right_lessened (order_for s) (order_for (with_flag s id None)) (flag_object id) c (flag_apart s id None) (ended_idle k.order (flag_object id) b has) (ended_fits (order_for s) (length (queue k.order b (flag_object id))) k.order (flag_object id) b all)
+    right_lessened (orders_with o s) (orders_with o (with_flag s id None)) (flag_object id) c (flag_apart o s id None) (ended_idle k.order (flag_object id) b has) (ended_fits (orders_with o s) (length (queue k.order b (flag_object id))) k.order (flag_object id) b all)
 
 -- ---- waiting
 
@@ -326,71 +327,71 @@ known_id (pos n) test =
 known_id (negsuc n) test = absurd (cc test)
 
 -- what holds of the base and the table after a call
-abbrev DoneRight : SemFlagDone → Type 0
-DoneRight done = AreRight (order_for done.table) done.base
+abbrev DoneRight : Objects → SemFlagDone → Type 0
+DoneRight o done = AreRight (orders_with o done.table) done.base
 
-waits_if : (over : Bool) (now waits : SemFlagDone) → DoneRight now → DoneRight waits → DoneRight (cond over now waits)
-waits_if true now waits over on = over
-waits_if false now waits over on = on
+waits_if : (o : Objects) (over : Bool) (now waits : SemFlagDone) → DoneRight o now → DoneRight o waits → DoneRight o (cond over now waits)
+waits_if o true now waits over on = over
+waits_if o false now waits over on = on
 
-sem_waited : (b : Base) (s : SemFlags) (t id n : ℕ) (timeout : ℤ) (slot : Option Semaphore) → sem_at s id ≡ slot → 1 ≤ id → id ≤ 64 → AreRight (order_for s) b → DoneRight (waited_for_sem b s t id n timeout slot)
-sem_waited b s t id n timeout None at one last all = all
-sem_waited b s t id n timeout (Some k) at one last all =
-    waits_if (serves_at_once b k id t n) _ _
-    (right_same (order_for s) (order_for (taken_from_sem s id k n)) b (sem_orders s id k _ at refl) all)
-    (waits_if (int_eq timeout (pos 0)) _ _ all
-    (wait_fits (order_for s) b t (sem_object id) k.order timeout (sem_order_is s id one last ∙ ap sem_order at) all))
+sem_waited : (o : Objects) (b : Base) (s : SemFlags) (t id n : ℕ) (timeout : ℤ) (slot : Option Semaphore) → sem_at s id ≡ slot → 1 ≤ id → id ≤ 64 → AreRight (orders_with o s) b → DoneRight o (waited_for_sem b s t id n timeout slot)
+sem_waited o b s t id n timeout None at one last all = all
+sem_waited o b s t id n timeout (Some k) at one last all =
+    waits_if o (serves_at_once b k id t n) _ _
+    (right_same (orders_with o s) (orders_with o (taken_from_sem s id k n)) b (sem_orders o s id k _ at refl) all)
+    (waits_if o (int_eq timeout (pos 0)) _ _ all
+    (wait_fits (orders_with o s) b t (sem_object id) k.order timeout (sem_order_is o s id one last ∙ ap sem_order at) all))
 
-flag_waited : (b : Base) (s : SemFlags) (t id : ℕ) (wish : FlagWish) (timeout : ℤ) (slot : Option EventFlag) → flag_at s id ≡ slot → 1 ≤ id → id ≤ 64 → AreRight (order_for s) b → DoneRight (waited_for_flag b s t id wish timeout slot)
-flag_waited b s t id wish timeout None at one last all = all
-flag_waited b s t id wish timeout (Some k) at one last all =
-    waits_if (has_bits k.pattern wish) _ _
-    (right_same (order_for s) (order_for (cleared_flag s id k wish)) b (flag_orders s id k _ at refl) all)
-    (waits_if (int_eq timeout (pos 0)) _ _ all
-    (wait_fits (order_for s) b t (flag_object id) k.order timeout (flag_order_is s id one last ∙ ap flag_order at) all))
+flag_waited : (o : Objects) (b : Base) (s : SemFlags) (t id : ℕ) (wish : FlagWish) (timeout : ℤ) (slot : Option EventFlag) → flag_at s id ≡ slot → 1 ≤ id → id ≤ 64 → AreRight (orders_with o s) b → DoneRight o (waited_for_flag b s t id wish timeout slot)
+flag_waited o b s t id wish timeout None at one last all = all
+flag_waited o b s t id wish timeout (Some k) at one last all =
+    waits_if o (has_bits k.pattern wish) _ _
+    (right_same (orders_with o s) (orders_with o (cleared_flag s id k wish)) b (flag_orders o s id k _ at refl) all)
+    (waits_if o (int_eq timeout (pos 0)) _ _ all
+    (wait_fits (orders_with o s) b t (flag_object id) k.order timeout (flag_order_is o s id one last ∙ ap flag_order at) all))
 
 -- ---- the calls
 
-sem_signalled : (b : Base) (s : SemFlags) (id n : ℕ) (slot : Option Semaphore) → sem_at s id ≡ slot → AreRight (order_for s) b → AreRight (order_for (signalled s id n slot)) b
-sem_signalled b s id n None at all = all
-sem_signalled b s id n (Some k) at all = right_same (order_for s) (order_for (signalled s id n (Some k))) b (sem_orders s id k _ at refl) all
+sem_signalled : (o : Objects) (b : Base) (s : SemFlags) (id n : ℕ) (slot : Option Semaphore) → sem_at s id ≡ slot → AreRight (orders_with o s) b → AreRight (orders_with o (signalled s id n slot)) b
+sem_signalled o b s id n None at all = all
+sem_signalled o b s id n (Some k) at all = right_same (orders_with o s) (orders_with o (signalled s id n (Some k))) b (sem_orders o s id k _ at refl) all
 
-flag_changed : (b : Base) (s : SemFlags) (id : ℕ) (change : ℕ → ℕ) (slot : Option EventFlag) → flag_at s id ≡ slot → AreRight (order_for s) b → AreRight (order_for (repatterned s id change slot)) b
-flag_changed b s id change None at all = all
-flag_changed b s id change (Some k) at all = right_same (order_for s) (order_for (repatterned s id change (Some k))) b (flag_orders s id k _ at refl) all
+flag_changed : (o : Objects) (b : Base) (s : SemFlags) (id : ℕ) (change : ℕ → ℕ) (slot : Option EventFlag) → flag_at s id ≡ slot → AreRight (orders_with o s) b → AreRight (orders_with o (repatterned s id change slot)) b
+flag_changed o b s id change None at all = all
+flag_changed o b s id change (Some k) at all = right_same (orders_with o s) (orders_with o (repatterned s id change (Some k))) b (flag_orders o s id k _ at refl) all
 
-checked_right : (checks : List Check) (b : Base) (s : SemFlags) (effect : SemFlagDone) → AreRight (order_for s) b → (first_error checks ≡ None → DoneRight effect) → DoneRight (sem_flag_checked checks b s effect)
-checked_right checks b s effect all works = sem_flag_cases DoneRight checks b s effect (λ code. all) works
+checked_right : (o : Objects) (checks : List Check) (b : Base) (s : SemFlags) (effect : SemFlagDone) → AreRight (orders_with o s) b → (first_error checks ≡ None → DoneRight o effect) → DoneRight o (sem_flag_checked checks b s effect)
+checked_right o checks b s effect all works = sem_flag_cases (DoneRight o) checks b s effect (λ code. all) works
 
 -- every call
-pub family_fits : (b : Base) (s : SemFlags) (who : Who) (c : SemFlagCall) → HavePlaces b → AreRight (order_for s) b → DoneRight (sem_flag_call b s who c)
+pub family_fits : (o : Objects) (b : Base) (s : SemFlags) (who : Who) (c : SemFlagCall) → HavePlaces b → AreRight (orders_with o s) b → DoneRight o (sem_flag_call b s who c)
 unfolding sem_flag_call create_sem create_flag delete_sem delete_flag signal_sem set_flag clear_flag refer_sem refer_flag wait_sem wait_flag
-family_fits b s who (call.CreSem attributes count most) has all =
-    checked_right (SemFlagCalls.create_sem_checks s attributes count most) b s _ all
-    (λ none. right_grown (order_for s) (order_for (with_sem s (free_sem s) (Some (record { order = SemFlagCalls.order_of attributes; any_place = attributes.ta_cnt; count = natural count; most = natural most })))) b
-    (sem_made s (free_sem s) _ (λ one. free_slot s.sems (free_sem s) one refl)) all)
-family_fits b s who (call.SigSem id count) has all =
-    checked_right (SemFlagCalls.signal_checks s id count) b s _ all (λ none. sem_signalled b s (natural id) (natural count) (sem_at s (natural id)) refl all)
-family_fits b s who (call.WaiSem id count timeout) has all =
-    checked_right (SemFlagCalls.wait_sem_checks b s who id count timeout) b s _ all
-    (λ none. let known = known_id id (holds_at 0 (SemFlagCalls.wait_sem_checks b s who id count timeout) none) in sem_waited b s _ (natural id) (natural count) timeout (sem_at s (natural id)) refl known.0 known.1 all)
-family_fits b s who (call.RefSem id) has all = checked_right (SemFlagCalls.object_checks id (SemFlagCalls.has_sem s id) []) b s _ all (λ none. all)
-family_fits b s who (call.CreFlg attributes pattern) has all =
-    checked_right (SemFlagCalls.create_flag_checks s attributes) b s _ all
-    (λ none. right_grown (order_for s) (order_for (with_flag s (free_flag s) (Some (record { order = SemFlagCalls.order_of attributes; many = attributes.ta_wmul; pattern = cast_unsigned w32 pattern })))) b
-    (flag_made s (free_flag s) _ (λ one. free_slot s.flags (free_flag s) one refl)) all)
-family_fits b s who (call.SetFlg id pattern) has all =
-    checked_right (SemFlagCalls.object_checks id (SemFlagCalls.has_flag s id) []) b s _ all (λ none. flag_changed b s (natural id) (λ old. bit_or old (cast_unsigned w32 pattern)) (flag_at s (natural id)) refl all)
-family_fits b s who (call.ClrFlg id pattern) has all =
-    checked_right (SemFlagCalls.object_checks id (SemFlagCalls.has_flag s id) []) b s _ all (λ none. flag_changed b s (natural id) (λ old. bit_and old (cast_unsigned w32 pattern)) (flag_at s (natural id)) refl all)
-family_fits b s who (call.WaiFlg id bits mode timeout) has all =
-    checked_right (SemFlagCalls.wait_flag_checks b s who id bits mode timeout) b s _ all
-    (λ none. let known = known_id id (holds_at 0 (SemFlagCalls.wait_flag_checks b s who id bits mode timeout) none) in flag_waited b s _ (natural id) _ timeout (flag_at s (natural id)) refl known.0 known.1 all)
-family_fits b s who (call.RefFlg id) has all = checked_right (SemFlagCalls.object_checks id (SemFlagCalls.has_flag s id) []) b s _ all (λ none. all)
-family_fits b s who (call.DelSem id) has all =
-    checked_right (SemFlagCalls.object_checks id (SemFlagCalls.has_sem s id) []) b s _ all (λ none. sem_deleted b s (natural id) (sem_at s (natural id)) refl has all)
-family_fits b s who (call.DelFlg id) has all =
-    checked_right (SemFlagCalls.object_checks id (SemFlagCalls.has_flag s id) []) b s _ all (λ none. flag_deleted b s (natural id) (flag_at s (natural id)) refl has all)
+family_fits o b s who (call.CreSem attributes count most) has all =
+    checked_right o (SemFlagCalls.create_sem_checks s attributes count most) b s _ all
+    (λ none. right_grown (orders_with o s) (orders_with o (with_sem s (free_sem s) (Some (record { order = SemFlagCalls.order_of attributes; any_place = attributes.ta_cnt; count = natural count; most = natural most })))) b
+    (sem_made o s (free_sem s) _ (λ one. free_slot s.sems (free_sem s) one refl)) all)
+family_fits o b s who (call.SigSem id count) has all =
+    checked_right o (SemFlagCalls.signal_checks s id count) b s _ all (λ none. sem_signalled o b s (natural id) (natural count) (sem_at s (natural id)) refl all)
+family_fits o b s who (call.WaiSem id count timeout) has all =
+    checked_right o (SemFlagCalls.wait_sem_checks b s who id count timeout) b s _ all
+    (λ none. let known = known_id id (holds_at 0 (SemFlagCalls.wait_sem_checks b s who id count timeout) none) in sem_waited o b s _ (natural id) (natural count) timeout (sem_at s (natural id)) refl known.0 known.1 all)
+family_fits o b s who (call.RefSem id) has all = checked_right o (SemFlagCalls.object_checks id (SemFlagCalls.has_sem s id) []) b s _ all (λ none. all)
+family_fits o b s who (call.CreFlg attributes pattern) has all =
+    checked_right o (SemFlagCalls.create_flag_checks s attributes) b s _ all
+    (λ none. right_grown (orders_with o s) (orders_with o (with_flag s (free_flag s) (Some (record { order = SemFlagCalls.order_of attributes; many = attributes.ta_wmul; pattern = cast_unsigned w32 pattern })))) b
+    (flag_made o s (free_flag s) _ (λ one. free_slot s.flags (free_flag s) one refl)) all)
+family_fits o b s who (call.SetFlg id pattern) has all =
+    checked_right o (SemFlagCalls.object_checks id (SemFlagCalls.has_flag s id) []) b s _ all (λ none. flag_changed o b s (natural id) (λ old. bit_or old (cast_unsigned w32 pattern)) (flag_at s (natural id)) refl all)
+family_fits o b s who (call.ClrFlg id pattern) has all =
+    checked_right o (SemFlagCalls.object_checks id (SemFlagCalls.has_flag s id) []) b s _ all (λ none. flag_changed o b s (natural id) (λ old. bit_and old (cast_unsigned w32 pattern)) (flag_at s (natural id)) refl all)
+family_fits o b s who (call.WaiFlg id bits mode timeout) has all =
+    checked_right o (SemFlagCalls.wait_flag_checks b s who id bits mode timeout) b s _ all
+    (λ none. let known = known_id id (holds_at 0 (SemFlagCalls.wait_flag_checks b s who id bits mode timeout) none) in flag_waited o b s _ (natural id) _ timeout (flag_at s (natural id)) refl known.0 known.1 all)
+family_fits o b s who (call.RefFlg id) has all = checked_right o (SemFlagCalls.object_checks id (SemFlagCalls.has_flag s id) []) b s _ all (λ none. all)
+family_fits o b s who (call.DelSem id) has all =
+    checked_right o (SemFlagCalls.object_checks id (SemFlagCalls.has_sem s id) []) b s _ all (λ none. sem_deleted o b s (natural id) (sem_at s (natural id)) refl has all)
+family_fits o b s who (call.DelFlg id) has all =
+    checked_right o (SemFlagCalls.object_checks id (SemFlagCalls.has_flag s id) []) b s _ all (λ none. flag_deleted o b s (natural id) (flag_at s (natural id)) refl has all)
 
 -- ---- the order of an object's waiters
 
@@ -407,17 +408,17 @@ row_order orders object by None fits waits is = absurd (cc waits)
 row_order orders object by (Some k) fits waits is = phase_order orders object k.queue by k.phase fits waits is
 
 -- where tasks wait in the order of what they wait for, an object's waiters queue as it says
-waiters_order : (b : Base) (s : SemFlags) (object : ℕ) (by : Order) → IsOrderly b s → order_for s object ≡ Some by → AreOfOrder by b object
-waiters_order b s object by all is = record { alike = λ t waits. row_order (order_for s) object by (task_at b t) (all.each t) waits is }
+waiters_order : (b : Base) (o : Objects) (object : ℕ) (by : Order) → IsOrderly b o → order_for o object ≡ Some by → AreOfOrder by b object
+waiters_order b o object by all is = record { alike = λ t waits. row_order (order_for o) object by (task_at b t) (all.each t) waits is }
 
-pub sleepers_order : (b : Base) (s : SemFlags) → IsOrderly b s → AreOfOrder Fifo b 0
-sleepers_order b s all = waiters_order b s 0 Fifo all refl
+pub sleepers_order : (b : Base) (o : Objects) → IsOrderly b o → AreOfOrder Fifo b 0
+sleepers_order b o all = waiters_order b o 0 Fifo all refl
 
-pub delayed_order : (b : Base) (s : SemFlags) → IsOrderly b s → AreOfOrder Fifo b 1
-delayed_order b s all = waiters_order b s 1 Fifo all refl
+pub delayed_order : (b : Base) (o : Objects) → IsOrderly b o → AreOfOrder Fifo b 1
+delayed_order b o all = waiters_order b o 1 Fifo all refl
 
-pub sem_waiters_order : (b : Base) (s : SemFlags) (id : ℕ) (k : Semaphore) → IsOrderly b s → 1 ≤ id → id ≤ 64 → sem_at s id ≡ Some k → AreOfOrder k.order b (sem_object id)
-sem_waiters_order b s id k all one last at = waiters_order b s (sem_object id) k.order all (sem_order_is s id one last ∙ ap sem_order at)
+pub sem_waiters_order : (b : Base) (o : Objects) (id : ℕ) (k : Semaphore) → IsOrderly b o → 1 ≤ id → id ≤ 64 → sem_at o.sem_flags id ≡ Some k → AreOfOrder k.order b (sem_object id)
+sem_waiters_order b o id k all one last at = waiters_order b o (sem_object id) k.order all (sem_order_is o o.sem_flags id one last ∙ ap sem_order at)
 
-pub flag_waiters_order : (b : Base) (s : SemFlags) (id : ℕ) (k : EventFlag) → IsOrderly b s → 1 ≤ id → id ≤ 64 → flag_at s id ≡ Some k → AreOfOrder k.order b (flag_object id)
-flag_waiters_order b s id k all one last at = waiters_order b s (flag_object id) k.order all (flag_order_is s id one last ∙ ap flag_order at)
+pub flag_waiters_order : (b : Base) (o : Objects) (id : ℕ) (k : EventFlag) → IsOrderly b o → 1 ≤ id → id ≤ 64 → flag_at o.sem_flags id ≡ Some k → AreOfOrder k.order b (flag_object id)
+flag_waiters_order b o id k all one last at = waiters_order b o (flag_object id) k.order all (flag_order_is o o.sem_flags id one last ∙ ap flag_order at)

@@ -16,48 +16,22 @@ use Rattle.kernel_model.specs.Base.{Base, current, make_wait, release}
 use Rattle.kernel_model.specs.Priority.{current_of}
 use Rattle.kernel_model.specs.SemFlags.{SemFlags, SemFlagParts, sem_object, flag_object, sem_at, flag_at, count_of, wish_of, no_wish, has_bits, cleared_by, serve_sem, serve_sem_at, serve_sem_of, serve_flag, serve_flag_at, serve_flag_of, serve_sem_flag, flag_answer, taken_from_sem, cleared_flag}
 use Rattle.kernel_model.specs.SemFlagCalls.{SemFlagDone, serves_at_once, waited_for_sem, waited_for_flag}
-use Rattle.kernel_model.specs.Settle.{refreshed, served_within, settle}
+use Rattle.kernel_model.specs.Objects.{Objects, serve_object, with_sem_flags}
+use Rattle.kernel_model.specs.Settle.{settle}
 use Rattle.kernel_model.specs.State.{State}
 use Rattle.kernel_model.specs.Trial.{MayWait, asked_count, asked_wish, ended_with, sem_trial, sem_trial_of, flag_trial, flag_trial_of}
 use Rattle.kernel_model.specs.Paragraph.{over_or_waits, sem_after, sem_joined, sem_paragraph, sem_returns, flag_after, flag_joined, flag_paragraph, flag_returns}
 use Rattle.kernel_model.proofs.Filters.{apart_of}
 use Rattle.kernel_model.proofs.Patterns.{cleared_fails}
 use Rattle.kernel_model.proofs.Picks.{this_if}
-use Rattle.kernel_model.proofs.Served.{next_served, with_parts}
+use Rattle.kernel_model.proofs.Reached.{objects_served, objects_unserved, sem_flags_unserved}
+use Rattle.kernel_model.proofs.Served.{with_parts}
 use Rattle.kernel_model.proofs.Serving.{release_answers}
-use Rattle.kernel_model.proofs.Settled.{AllUpToDate, IsUnserved, released_up_to_date, resettled_same, waiting_up_to_date}
+use Rattle.kernel_model.proofs.Settled.{AllUpToDate, released_up_to_date, settled_none, settled_once, waiting_up_to_date}
 use Rattle.kernel_model.proofs.Standing.{GivesNoBits, SameQueue, counted, patterned, flag_still, queue_elsewhere, queue_rejoined, sem_still}
 use Rattle.kernel_model.proofs.Tables.{entry_beyond, entry_inside, entry_other, entry_there}
 use Rattle.kernel_model.proofs.Trial.{joined_waits, ready_for_none, sem_call_is_trial, sem_served_joined, sem_settled, flag_call_is_trial, flag_served_joined, flag_settled}
-use Rattle.kernel_model.proofs.Unserved.{OthersServeNone, flags_unserved, flag_alone, none_unserved, sem_alone, sems_unserved}
-
--- ---- settling of what is settled, and of what one serving settles
-
-refreshed_same : (st : State) → AllUpToDate st.base → refreshed st ≡ st
-refreshed_same st all = ap (λ base. record st { base = base }) (resettled_same st.base all)
-
-served_none : (left : ℕ) (st : State) → IsUnserved st.base st.sem_flags → served_within left st ≡ st
-unfolding served_within
-served_none zero st none = refl
-served_none (suc left) st none = ap (λ next. next_served left st (option_map (with_parts st) next)) none
-
-served_once : (left : ℕ) (st : State) (parts : SemFlagParts) → serve_sem_flag st.base st.sem_flags ≡ Some parts → served_within (suc left) st ≡ served_within left (refreshed (with_parts st parts))
-unfolding served_within
-served_once left st parts is = ap (λ next. next_served left st (option_map (with_parts st) next)) is
-
--- a settled state stays
-settled_none : (st : State) → AllUpToDate st.base → IsUnserved st.base st.sem_flags → settle st ≡ st
-unfolding settle
-settled_none st all none = ap (served_within 256) (refreshed_same st all) ∙ served_none 256 st none
-
--- and where a serving leaves a settled state, that is what comes of it
-settled_once : (st : State) (parts : SemFlagParts) → AllUpToDate st.base → serve_sem_flag st.base st.sem_flags ≡ Some parts → AllUpToDate parts.base → IsUnserved parts.base parts.table → settle st ≡ with_parts st parts
-unfolding settle
-settled_once st parts all is after none =
-    ap (served_within 256) (refreshed_same st all)
-    ∙ served_once 255 st parts is
-    ∙ ap (served_within 255) (refreshed_same (with_parts st parts) after)
-    ∙ served_none 255 (with_parts st parts) none
+use Rattle.kernel_model.proofs.Unserved.{AreUnserved, OthersServeNone, flags_unserved, flag_alone, none_unserved, sem_alone, sems_unserved}
 
 -- ---- what stays as it was
 
@@ -99,20 +73,20 @@ no_answer returned ended over false is = absurd (cc is)
 -- ---- semaphores: who can be served once the caller has joined
 
 -- no other semaphore
-sems_joined : (b : Base) (s : SemFlags) (t id n : ℕ) (timeout : ℤ) (k : Semaphore) → MayWait b t → IsUnserved b s → OthersServeNone (serve_sem (make_wait b t (sem_object id) k.order timeout) (asked_count s t n)) id
+sems_joined : (b : Base) (s : SemFlags) (t id n : ℕ) (timeout : ℤ) (k : Semaphore) → MayWait b t → AreUnserved b s → OthersServeNone (serve_sem (make_wait b t (sem_object id) k.order timeout) (asked_count s t n)) id
 sems_joined b s t id n timeout k may none other one apart =
     sem_stays b (make_wait b t (sem_object id) k.order timeout) s (asked_count s t n) t other may
     (queue_elsewhere b t (sem_object id) (sem_object other) k.order timeout may (λ e. apart (omega (arith, e)))) (other_counts s t n) refl (sems_unserved b s none other one)
 
 -- and no event flag
-flags_beside : (b : Base) (s : SemFlags) (t id n : ℕ) (timeout : ℤ) (k : Semaphore) → MayWait b t → IsUnserved b s → id ≤ 64 → (other : ℕ) → 1 ≤ other →
+flags_beside : (b : Base) (s : SemFlags) (t id n : ℕ) (timeout : ℤ) (k : Semaphore) → MayWait b t → AreUnserved b s → id ≤ 64 → (other : ℕ) → 1 ≤ other →
     serve_flag (make_wait b t (sem_object id) k.order timeout) (asked_count s t n) other ≡ None
 flags_beside b s t id n timeout k may none most other one =
     flag_stays b (make_wait b t (sem_object id) k.order timeout) s (asked_count s t n) t other may
     (queue_elsewhere b t (sem_object id) (flag_object other) k.order timeout may (λ e. omega (arith, e, most, one))) (λ u apart. refl) refl (flags_unserved b s none other one)
 
 -- so what is served first is the caller, or nobody
-sem_first : (b : Base) (s : SemFlags) (t id n : ℕ) (timeout : ℤ) (k : Semaphore) → MayWait b t → sem_at s id ≡ Some k → 1 ≤ id → id ≤ 64 → t < length s.counts → IsUnserved b s →
+sem_first : (b : Base) (s : SemFlags) (t id n : ℕ) (timeout : ℤ) (k : Semaphore) → MayWait b t → sem_at s id ≡ Some k → 1 ≤ id → id ≤ 64 → t < length s.counts → AreUnserved b s →
     serve_sem_flag (make_wait b t (sem_object id) k.order timeout) (asked_count s t n) ≡ serve_sem_of (make_wait b t (sem_object id) k.order timeout) (asked_count s t n) id k (this_if (serves_at_once b k id t n) t)
 unfolding serve_sem
 sem_first b s t id n timeout k may at one most inside none =
@@ -133,8 +107,8 @@ taken_slot s id n other k true is at =
 taken_slot s id n other k false is at = entry_other s.sems id other (Some (record k { count = k.count - n })) (apart_of other id is) ∙ sem_unchanged (sem_at s other)
 
 -- nobody can be served
-sem_done : (b : Base) (s : SemFlags) (t id n taken : ℕ) (timeout : ℤ) (k : Semaphore) (result : Answer) → MayWait b t → sem_at s id ≡ Some k → IsUnserved b s →
-    IsUnserved (release (make_wait b t (sem_object id) k.order timeout) t result) (taken_from_sem (asked_count s t n) id k taken)
+sem_done : (b : Base) (s : SemFlags) (t id n taken : ℕ) (timeout : ℤ) (k : Semaphore) (result : Answer) → MayWait b t → sem_at s id ≡ Some k → AreUnserved b s →
+    AreUnserved (release (make_wait b t (sem_object id) k.order timeout) t result) (taken_from_sem (asked_count s t n) id k taken)
 sem_done b s t id n taken timeout k result may at none =
     let c : Base = release (make_wait b t (sem_object id) k.order timeout) t result in
     let now : SemFlags = taken_from_sem (asked_count s t n) id k taken in
@@ -147,39 +121,40 @@ sem_done b s t id n taken timeout k result may at none =
 
 -- ---- what comes of it
 
-sem_after_if : (st : State) (t id n : ℕ) (timeout : ℤ) (k : Semaphore) (at_once : Bool) → MayWait st.base t → sem_at st.sem_flags id ≡ Some k → IsUnserved st.base st.sem_flags → AllUpToDate st.base →
-    serve_sem_flag (sem_joined st t id n timeout k).base (sem_joined st t id n timeout k).sem_flags ≡ serve_sem_of (sem_joined st t id n timeout k).base (asked_count st.sem_flags t n) id k (this_if at_once t) →
-    sem_trial_of st.base st.sem_flags t id n timeout k (serve_sem_of (sem_joined st t id n timeout k).base (asked_count st.sem_flags t n) id k (this_if at_once t)) ≡ sem_after st (settle (sem_joined st t id n timeout k)) t timeout
+sem_after_if : (st : State) (t id n : ℕ) (timeout : ℤ) (k : Semaphore) (at_once : Bool) → MayWait st.base t → sem_at st.objects.sem_flags id ≡ Some k → AreUnserved st.base st.objects.sem_flags → AllUpToDate st.base →
+    serve_sem_flag (sem_joined st t id n timeout k).base (sem_joined st t id n timeout k).objects.sem_flags ≡ serve_sem_of (sem_joined st t id n timeout k).base (asked_count st.objects.sem_flags t n) id k (this_if at_once t) →
+    sem_trial_of st.base st.objects.sem_flags t id n timeout k (serve_sem_of (sem_joined st t id n timeout k).base (asked_count st.objects.sem_flags t n) id k (this_if at_once t)) ≡ sem_after st (settle (sem_joined st t id n timeout k)) t timeout
 sem_after_if st t id n timeout k false may at none all is =
     let now : State = sem_joined st t id n timeout k in
     let up : AllUpToDate now.base = λ u one. waiting_up_to_date st.base t u (sem_object id) k.order timeout (all u one) in
-    sym (ap (λ settled. sem_after st settled t timeout) (settled_none now up is)
+    sym (ap (λ settled. sem_after st settled t timeout) (settled_none now up (objects_unserved now.base now.objects is))
     ∙ no_answer (sem_returns st now t) _ (over_or_waits st now timeout) _ (joined_waits st.base t (sem_object id) k.order timeout may))
 sem_after_if st t id n timeout k true may at none all is =
     let now : State = sem_joined st t id n timeout k in
-    let asked : SemFlags = asked_count st.sem_flags t n in
+    let asked : SemFlags = asked_count st.objects.sem_flags t n in
     let taken : SemFlags = taken_from_sem asked id k (count_of asked t) in
     let parts : SemFlagParts = record { base = release now.base t (plain (pos 0)); table = taken } in
     let up : AllUpToDate now.base = λ u one. waiting_up_to_date st.base t u (sem_object id) k.order timeout (all u one) in
     let after : AllUpToDate parts.base = λ u one. released_up_to_date now.base t u (plain (pos 0)) (up u one) in
-    same_answer (sem_returns st (with_parts now parts) t) (plain (pos 0)) (ended_with t parts) _ _ (release_answers now.base t (plain (pos 0)) taken (joined_waits st.base t (sem_object id) k.order timeout may))
+    same_answer (sem_returns st (with_parts now (with_sem_flags now.objects parts)) t) (plain (pos 0)) (ended_with t parts) _ _ (release_answers now.base t (plain (pos 0)) taken (joined_waits st.base t (sem_object id) k.order timeout may))
     ∙ sym (ap (λ settled. sem_after st settled t timeout)
-    (settled_once now parts up is after (sem_done st.base st.sem_flags t id n (count_of asked t) timeout k (plain (pos 0)) may at none)))
+    (settled_once now (with_sem_flags now.objects parts) up (objects_served now.base now.objects parts is) after (objects_unserved parts.base (record now.objects { sem_flags = parts.table }) (sem_done st.base st.objects.sem_flags t id n (count_of asked t) timeout k (plain (pos 0)) may at none))))
 
-pub sem_call_is_paragraph : (st : State) (t id n : ℕ) (timeout : ℤ) (k : Semaphore) → MayWait st.base t → sem_at st.sem_flags id ≡ Some k → 1 ≤ id → length st.sem_flags.sems ≤ 65 → t < length st.sem_flags.counts →
-    serve_sem_flag st.base st.sem_flags ≡ None → ((u : ℕ) → 1 ≤ u → current st.base u ≡ current_of st.base u) →
-    waited_for_sem st.base st.sem_flags t id n timeout (Some k) ≡ sem_paragraph st t id n timeout k
+pub sem_call_is_paragraph : (st : State) (t id n : ℕ) (timeout : ℤ) (k : Semaphore) → MayWait st.base t → sem_at st.objects.sem_flags id ≡ Some k → 1 ≤ id → length st.objects.sem_flags.sems ≤ 65 → t < length st.objects.sem_flags.counts →
+    serve_object st.base st.objects ≡ None → ((u : ℕ) → 1 ≤ u → current st.base u ≡ current_of st.base u) →
+    waited_for_sem st.base st.objects.sem_flags t id n timeout (Some k) ≡ sem_paragraph st t id n timeout k
 unfolding sem_paragraph sem_trial serve_sem
-sem_call_is_paragraph st t id n timeout k may at one slots inside none all =
+sem_call_is_paragraph st t id n timeout k may at one slots inside settled all =
+    let none : AreUnserved st.base st.objects.sem_flags = sem_flags_unserved st.base st.objects settled in
     let c : Base = make_wait st.base t (sem_object id) k.order timeout in
-    let asked : SemFlags = asked_count st.sem_flags t n in
-    let stands : id < length st.sem_flags.sems = entry_inside st.sem_flags.sems id k at in
+    let asked : SemFlags = asked_count st.objects.sem_flags t n in
+    let stands : id < length st.objects.sem_flags.sems = entry_inside st.objects.sem_flags.sems id k at in
     let most : id ≤ 64 = omega (arith, stands, slots) in
-    let own = sems_unserved st.base st.sem_flags none id one in
-    sem_call_is_trial st.base st.sem_flags t id n timeout k may at inside own
-    ∙ ap (λ slot. sem_trial_of st.base st.sem_flags t id n timeout k (serve_sem_at c asked id slot)) at
-    ∙ ap (λ picked. sem_trial_of st.base st.sem_flags t id n timeout k (serve_sem_of c asked id k picked)) (sem_served_joined st.base st.sem_flags t id n timeout k may inside (sem_settled st.base st.sem_flags id k at own))
-    ∙ sem_after_if st t id n timeout k (serves_at_once st.base k id t n) may at none all (sem_first st.base st.sem_flags t id n timeout k may at one most inside none)
+    let own = sems_unserved st.base st.objects.sem_flags none id one in
+    sem_call_is_trial st.base st.objects.sem_flags t id n timeout k may at inside own
+    ∙ ap (λ slot. sem_trial_of st.base st.objects.sem_flags t id n timeout k (serve_sem_at c asked id slot)) at
+    ∙ ap (λ picked. sem_trial_of st.base st.objects.sem_flags t id n timeout k (serve_sem_of c asked id k picked)) (sem_served_joined st.base st.objects.sem_flags t id n timeout k may inside (sem_settled st.base st.objects.sem_flags id k at own))
+    ∙ sem_after_if st t id n timeout k (serves_at_once st.base k id t n) may at none all (sem_first st.base st.objects.sem_flags t id n timeout k may at one most inside none)
 
 -- ---- event flags: who can be served once the caller has joined
 
@@ -187,7 +162,7 @@ sem_beyond : (b : Base) (s : SemFlags) (id : ℕ) → length s.sems ≤ id → s
 unfolding serve_sem
 sem_beyond b s id beyond = ap (serve_sem_at b s id) (entry_beyond s.sems id beyond)
 
-sem_beside_if : (b : Base) (s : SemFlags) (t id other : ℕ) (wish : FlagWish) (timeout : ℤ) (k : EventFlag) (low : Bool) → nat_le other 64 ≡ low → MayWait b t → IsUnserved b s → 1 ≤ id → length s.sems ≤ 65 → 1 ≤ other →
+sem_beside_if : (b : Base) (s : SemFlags) (t id other : ℕ) (wish : FlagWish) (timeout : ℤ) (k : EventFlag) (low : Bool) → nat_le other 64 ≡ low → MayWait b t → AreUnserved b s → 1 ≤ id → length s.sems ≤ 65 → 1 ≤ other →
     serve_sem (make_wait b t (flag_object id) k.order timeout) (asked_wish s t wish) other ≡ None
 sem_beside_if b s t id other wish timeout k true is may none first slots one =
     let low : other ≤ 64 = grind (arith, nat_tests, is) in
@@ -198,18 +173,18 @@ sem_beside_if b s t id other wish timeout k false is may none first slots one =
     sem_beyond (make_wait b t (flag_object id) k.order timeout) (asked_wish s t wish) other (omega (arith, high, slots))
 
 -- no semaphore
-sems_beside : (b : Base) (s : SemFlags) (t id : ℕ) (wish : FlagWish) (timeout : ℤ) (k : EventFlag) → MayWait b t → IsUnserved b s → 1 ≤ id → length s.sems ≤ 65 → (other : ℕ) → 1 ≤ other →
+sems_beside : (b : Base) (s : SemFlags) (t id : ℕ) (wish : FlagWish) (timeout : ℤ) (k : EventFlag) → MayWait b t → AreUnserved b s → 1 ≤ id → length s.sems ≤ 65 → (other : ℕ) → 1 ≤ other →
     serve_sem (make_wait b t (flag_object id) k.order timeout) (asked_wish s t wish) other ≡ None
 sems_beside b s t id wish timeout k may none first slots other one = sem_beside_if b s t id other wish timeout k (nat_le other 64) refl may none first slots one
 
 -- and no other event flag
-flags_joined : (b : Base) (s : SemFlags) (t id : ℕ) (wish : FlagWish) (timeout : ℤ) (k : EventFlag) → MayWait b t → IsUnserved b s → OthersServeNone (serve_flag (make_wait b t (flag_object id) k.order timeout) (asked_wish s t wish)) id
+flags_joined : (b : Base) (s : SemFlags) (t id : ℕ) (wish : FlagWish) (timeout : ℤ) (k : EventFlag) → MayWait b t → AreUnserved b s → OthersServeNone (serve_flag (make_wait b t (flag_object id) k.order timeout) (asked_wish s t wish)) id
 flags_joined b s t id wish timeout k may none other one apart =
     flag_stays b (make_wait b t (flag_object id) k.order timeout) s (asked_wish s t wish) t other may
     (queue_elsewhere b t (flag_object id) (flag_object other) k.order timeout may (λ e. apart (omega (arith, e)))) (λ u other. other_wishes s t u wish other) refl (flags_unserved b s none other one)
 
 -- so what is served first is the caller, or nobody
-flag_first : (b : Base) (s : SemFlags) (t id : ℕ) (wish : FlagWish) (timeout : ℤ) (k : EventFlag) → MayWait b t → flag_at s id ≡ Some k → 1 ≤ id → length s.sems ≤ 65 → t < length s.wishes → IsUnserved b s →
+flag_first : (b : Base) (s : SemFlags) (t id : ℕ) (wish : FlagWish) (timeout : ℤ) (k : EventFlag) → MayWait b t → flag_at s id ≡ Some k → 1 ≤ id → length s.sems ≤ 65 → t < length s.wishes → AreUnserved b s →
     serve_sem_flag (make_wait b t (flag_object id) k.order timeout) (asked_wish s t wish) ≡ serve_flag_of (make_wait b t (flag_object id) k.order timeout) (asked_wish s t wish) id k (this_if (has_bits k.pattern wish) t)
 unfolding serve_flag
 flag_first b s t id wish timeout k may at one slots inside none =
@@ -238,8 +213,8 @@ cleared_slot s id other wish k true is at =
 cleared_slot s id other wish k false is at = entry_other s.flags id other (Some (record k { pattern = cleared_by wish k.pattern })) (apart_of other id is) ∙ flag_unchanged (flag_at s other)
 
 -- nobody can be served
-flag_done : (b : Base) (s : SemFlags) (t id : ℕ) (wish done : FlagWish) (timeout : ℤ) (k : EventFlag) (result : Answer) → MayWait b t → flag_at s id ≡ Some k → IsUnserved b s →
-    IsUnserved (release (make_wait b t (flag_object id) k.order timeout) t result) (cleared_flag (asked_wish s t wish) id k done)
+flag_done : (b : Base) (s : SemFlags) (t id : ℕ) (wish done : FlagWish) (timeout : ℤ) (k : EventFlag) (result : Answer) → MayWait b t → flag_at s id ≡ Some k → AreUnserved b s →
+    AreUnserved (release (make_wait b t (flag_object id) k.order timeout) t result) (cleared_flag (asked_wish s t wish) id k done)
 flag_done b s t id wish done timeout k result may at none =
     let c : Base = release (make_wait b t (flag_object id) k.order timeout) t result in
     let now : SemFlags = cleared_flag (asked_wish s t wish) id k done in
@@ -252,34 +227,35 @@ flag_done b s t id wish done timeout k result may at none =
 
 -- ---- what comes of it
 
-flag_after_if : (st : State) (t id : ℕ) (wish : FlagWish) (timeout : ℤ) (k : EventFlag) (at_once : Bool) → MayWait st.base t → flag_at st.sem_flags id ≡ Some k → IsUnserved st.base st.sem_flags → AllUpToDate st.base →
-    serve_sem_flag (flag_joined st t id wish timeout k).base (flag_joined st t id wish timeout k).sem_flags ≡ serve_flag_of (flag_joined st t id wish timeout k).base (asked_wish st.sem_flags t wish) id k (this_if at_once t) →
-    flag_trial_of st.base st.sem_flags t id wish timeout k (serve_flag_of (flag_joined st t id wish timeout k).base (asked_wish st.sem_flags t wish) id k (this_if at_once t)) ≡ flag_after st (settle (flag_joined st t id wish timeout k)) t timeout
+flag_after_if : (st : State) (t id : ℕ) (wish : FlagWish) (timeout : ℤ) (k : EventFlag) (at_once : Bool) → MayWait st.base t → flag_at st.objects.sem_flags id ≡ Some k → AreUnserved st.base st.objects.sem_flags → AllUpToDate st.base →
+    serve_sem_flag (flag_joined st t id wish timeout k).base (flag_joined st t id wish timeout k).objects.sem_flags ≡ serve_flag_of (flag_joined st t id wish timeout k).base (asked_wish st.objects.sem_flags t wish) id k (this_if at_once t) →
+    flag_trial_of st.base st.objects.sem_flags t id wish timeout k (serve_flag_of (flag_joined st t id wish timeout k).base (asked_wish st.objects.sem_flags t wish) id k (this_if at_once t)) ≡ flag_after st (settle (flag_joined st t id wish timeout k)) t timeout
 flag_after_if st t id wish timeout k false may at none all is =
     let now : State = flag_joined st t id wish timeout k in
     let up : AllUpToDate now.base = λ u one. waiting_up_to_date st.base t u (flag_object id) k.order timeout (all u one) in
-    sym (ap (λ settled. flag_after st settled t timeout) (settled_none now up is)
+    sym (ap (λ settled. flag_after st settled t timeout) (settled_none now up (objects_unserved now.base now.objects is))
     ∙ no_answer (flag_returns st now t) _ (over_or_waits st now timeout) _ (joined_waits st.base t (flag_object id) k.order timeout may))
 flag_after_if st t id wish timeout k true may at none all is =
     let now : State = flag_joined st t id wish timeout k in
-    let asked : SemFlags = asked_wish st.sem_flags t wish in
+    let asked : SemFlags = asked_wish st.objects.sem_flags t wish in
     let cleared : SemFlags = cleared_flag asked id k (wish_of asked t) in
     let parts : SemFlagParts = record { base = release now.base t (flag_answer k); table = cleared } in
     let up : AllUpToDate now.base = λ u one. waiting_up_to_date st.base t u (flag_object id) k.order timeout (all u one) in
     let after : AllUpToDate parts.base = λ u one. released_up_to_date now.base t u (flag_answer k) (up u one) in
-    same_answer (flag_returns st (with_parts now parts) t) (flag_answer k) (ended_with t parts) _ _ (release_answers now.base t (flag_answer k) cleared (joined_waits st.base t (flag_object id) k.order timeout may))
+    same_answer (flag_returns st (with_parts now (with_sem_flags now.objects parts)) t) (flag_answer k) (ended_with t parts) _ _ (release_answers now.base t (flag_answer k) cleared (joined_waits st.base t (flag_object id) k.order timeout may))
     ∙ sym (ap (λ settled. flag_after st settled t timeout)
-    (settled_once now parts up is after (flag_done st.base st.sem_flags t id wish (wish_of asked t) timeout k (flag_answer k) may at none)))
+    (settled_once now (with_sem_flags now.objects parts) up (objects_served now.base now.objects parts is) after (objects_unserved parts.base (record now.objects { sem_flags = parts.table }) (flag_done st.base st.objects.sem_flags t id wish (wish_of asked t) timeout k (flag_answer k) may at none))))
 
-pub flag_call_is_paragraph : (st : State) (t id : ℕ) (wish : FlagWish) (timeout : ℤ) (k : EventFlag) → MayWait st.base t → flag_at st.sem_flags id ≡ Some k → 1 ≤ id → length st.sem_flags.sems ≤ 65 → t < length st.sem_flags.wishes →
-    serve_sem_flag st.base st.sem_flags ≡ None → ((u : ℕ) → 1 ≤ u → current st.base u ≡ current_of st.base u) →
-    waited_for_flag st.base st.sem_flags t id wish timeout (Some k) ≡ flag_paragraph st t id wish timeout k
+pub flag_call_is_paragraph : (st : State) (t id : ℕ) (wish : FlagWish) (timeout : ℤ) (k : EventFlag) → MayWait st.base t → flag_at st.objects.sem_flags id ≡ Some k → 1 ≤ id → length st.objects.sem_flags.sems ≤ 65 → t < length st.objects.sem_flags.wishes →
+    serve_object st.base st.objects ≡ None → ((u : ℕ) → 1 ≤ u → current st.base u ≡ current_of st.base u) →
+    waited_for_flag st.base st.objects.sem_flags t id wish timeout (Some k) ≡ flag_paragraph st t id wish timeout k
 unfolding flag_paragraph flag_trial serve_flag
-flag_call_is_paragraph st t id wish timeout k may at one slots inside none all =
+flag_call_is_paragraph st t id wish timeout k may at one slots inside settled all =
+    let none : AreUnserved st.base st.objects.sem_flags = sem_flags_unserved st.base st.objects settled in
     let c : Base = make_wait st.base t (flag_object id) k.order timeout in
-    let asked : SemFlags = asked_wish st.sem_flags t wish in
-    let own = flags_unserved st.base st.sem_flags none id one in
-    flag_call_is_trial st.base st.sem_flags t id wish timeout k may at inside own
-    ∙ ap (λ slot. flag_trial_of st.base st.sem_flags t id wish timeout k (serve_flag_at c asked id slot)) at
-    ∙ ap (λ picked. flag_trial_of st.base st.sem_flags t id wish timeout k (serve_flag_of c asked id k picked)) (flag_served_joined st.base st.sem_flags t id wish timeout k may inside (flag_settled st.base st.sem_flags id k at own))
-    ∙ flag_after_if st t id wish timeout k (has_bits k.pattern wish) may at none all (flag_first st.base st.sem_flags t id wish timeout k may at one slots inside none)
+    let asked : SemFlags = asked_wish st.objects.sem_flags t wish in
+    let own = flags_unserved st.base st.objects.sem_flags none id one in
+    flag_call_is_trial st.base st.objects.sem_flags t id wish timeout k may at inside own
+    ∙ ap (λ slot. flag_trial_of st.base st.objects.sem_flags t id wish timeout k (serve_flag_at c asked id slot)) at
+    ∙ ap (λ picked. flag_trial_of st.base st.objects.sem_flags t id wish timeout k (serve_flag_of c asked id k picked)) (flag_served_joined st.base st.objects.sem_flags t id wish timeout k may inside (flag_settled st.base st.objects.sem_flags id k at own))
+    ∙ flag_after_if st t id wish timeout k (has_bits k.pattern wish) may at none all (flag_first st.base st.objects.sem_flags t id wish timeout k may at one slots inside none)

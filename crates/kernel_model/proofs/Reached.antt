@@ -13,10 +13,12 @@ use Rattle.kernel_model.specs.Base.{Base, base_in, current, current_in, queue}
 use Rattle.kernel_model.specs.Priority.{current_of, taken_from}
 use Rattle.kernel_model.specs.SemFlags.{SemFlags, SemFlagParts, sem_at, flag_at, sem_object, flag_object, is_there, is_fulfilled, sem_pick, sem_served, flag_served, serve_sem, serve_sem_at, serve_sem_of, serve_flag, serve_flag_at, serve_flag_of, first_served, or_else, serve_sem_flag}
 use Rattle.kernel_model.specs.Settle.{followed}
+use Rattle.kernel_model.specs.Objects.{Objects, serve_object, with_sem_flags}
 use Rattle.kernel_model.specs.State.{State, state_start}
 use Rattle.kernel_model.specs.Step.{done_at, paced, step}
 use Rattle.kernel_model.specs.Trace.{start, state_after}
 use Rattle.std.specs.List.{find}
+use Rattle.std.specs.Option.{option_map}
 use Rattle.kernel_model.proofs.Settled.{IsUnserved, IsUpToDate, settle_unserved, settle_up_to_date}
 use Rattle.kernel_model.proofs.StepKeeps.{kept_first, kept_step, settled_keeps, start_keeps, worked_keeps}
 use Rattle.kernel_model.proofs.Tables.{none_there}
@@ -73,16 +75,39 @@ first_none serve other each (id ∷ ids) none =
     let parts = neither (serve id) (first_served serve ids) none in
     both_none (other id) (first_served other ids) (each id parts.0) (first_none serve other each ids parts.1)
 
--- where nobody can be served, nobody can be while the queues stand as they do
-unserved_same : (b c : Base) (s : SemFlags) → SameQueues b c → IsUnserved b s → IsUnserved c s
+-- where no semaphore and no flag serves anyone, none does while the queues stand as they do
+sem_flags_same : (b c : Base) (s : SemFlags) → SameQueues b c → serve_sem_flag b s ≡ None → serve_sem_flag c s ≡ None
 unfolding serve_sem_flag
-unserved_same b c s same none =
+sem_flags_same b c s same none =
     let sems : List ℕ = taken_from 1 (drop 1 s.sems) in
     let flags : List ℕ = taken_from 1 (drop 1 s.flags) in
     let parts = neither (first_served (serve_sem b s) sems) (first_served (serve_flag b s) flags) none in
     both_none (first_served (serve_sem c s) sems) (first_served (serve_flag c s) flags)
     (first_none (serve_sem b s) (serve_sem c s) (λ id. sem_none b c s id same) sems parts.0)
     (first_none (serve_flag b s) (serve_flag c s) (λ id. flag_none b c s id same) flags parts.1)
+
+unmapped : (o : Objects) (served : Option SemFlagParts) → option_map (with_sem_flags o) served ≡ None → served ≡ None
+unmapped o None none = refl
+unmapped o (Some parts) none = absurd (cc none)
+
+-- where nobody can be served, no semaphore and no flag serves anyone
+pub sem_flags_unserved : (b : Base) (o : Objects) → IsUnserved b o → serve_sem_flag b o.sem_flags ≡ None
+unfolding serve_object
+sem_flags_unserved b o none = unmapped o (serve_sem_flag b o.sem_flags) none
+
+-- and where none does, nobody can be served
+pub objects_unserved : (b : Base) (o : Objects) → serve_sem_flag b o.sem_flags ≡ None → IsUnserved b o
+unfolding serve_object
+objects_unserved b o none = ap (option_map (with_sem_flags o)) none
+
+-- what a semaphore or a flag serves first is what is served first
+pub objects_served : (b : Base) (o : Objects) (parts : SemFlagParts) → serve_sem_flag b o.sem_flags ≡ Some parts → serve_object b o ≡ Some (with_sem_flags o parts)
+unfolding serve_object
+objects_served b o parts is = ap (option_map (with_sem_flags o)) is
+
+-- where nobody can be served, nobody can be while the queues stand as they do
+unserved_same : (b c : Base) (o : Objects) → SameQueues b c → IsUnserved b o → IsUnserved c o
+unserved_same b c o same none = objects_unserved c o (sem_flags_same b c o.sem_flags same (sem_flags_unserved b o none))
 
 turned_queues : (b : Base) (cur : Option ℕ) → SameQueues b (record b { cur = cur })
 turned_queues b cur Fifo object = refl
@@ -106,34 +131,34 @@ start_slots : (script : Script) → HasSlots (start script).state.base.tasks
 unfolding state_start
 start_slots script =
     let slots : HasSlots (state_start script).base.tasks = length-set no_slots 1 (boot_slot script.boot.priority) in
-    start_keeps (λ b s. HasSlots b.tasks) script slots (λ cur. slots)
+    start_keeps (λ b o. HasSlots b.tasks) script slots (λ cur. slots)
 
 reached_slots : (script : Script) (budget n : ℕ) → HasSlots (state_after script budget n).base.tasks
 unfolding state_after
 reached_slots script budget zero = start_slots script
-reached_slots script budget (suc n) = kept_step (λ b. Unit {0}) (λ b s. HasSlots b.tasks) slots_kept script budget (state_after script budget n) tt (reached_slots script budget n)
+reached_slots script budget (suc n) = kept_step (λ b. Unit {0}) (λ b o. HasSlots b.tasks) slots_kept script budget (state_after script budget n) tt (reached_slots script budget n)
 
 -- ---- nobody can be served
 
-pub start_unserved : (script : Script) → IsUnserved (start script).state.base (start script).state.sem_flags
-unfolding state_start serve_sem_flag first_served
+pub start_unserved : (script : Script) → IsUnserved (start script).state.base (start script).state.objects
+unfolding state_start serve_object serve_sem_flag first_served
 start_unserved script = start_keeps IsUnserved script refl (λ cur. refl)
 
 -- nobody can be served once all that follows an event is done
-pub unserved_after : (script : Script) (n : ℕ) (st : State) → length st.base.tasks ≤ 256 → IsUnserved (followed script n st).state.base (followed script n st).state.sem_flags
+pub unserved_after : (script : Script) (n : ℕ) (st : State) → length st.base.tasks ≤ 256 → IsUnserved (followed script n st).state.base (followed script n st).state.objects
 unserved_after script n st slots =
-    settled_keeps IsUnserved (λ b s cur is. unserved_same b (record b { cur = cur }) s (turned_queues b cur) is) (λ b s is. unserved_same b (record b { released = [] }) s (emptied_queues b) is) script n st
+    settled_keeps IsUnserved (λ b o cur is. unserved_same b (record b { cur = cur }) o (turned_queues b cur) is) (λ b o is. unserved_same b (record b { released = [] }) o (emptied_queues b) is) script n st
     (settle_unserved st slots)
 
-step_unserved : (script : Script) (budget : ℕ) (st : State) → HasSlots st.base.tasks → IsUnserved st.base st.sem_flags → IsUnserved (step script budget st).state.base (step script budget st).state.sem_flags
+step_unserved : (script : Script) (budget : ℕ) (st : State) → HasSlots st.base.tasks → IsUnserved st.base st.objects → IsUnserved (step script budget st).state.base (step script budget st).state.objects
 step_unserved script budget st slots none =
     let n : ℕ = st.steps + 1 in
     let done : State = (done_at script n (paced script n st)).state in
-    let left : HasSlots done.base.tasks = kept_first (λ b. Unit {0}) (λ b s. HasSlots b.tasks) slots_kept script n st tt slots in
+    let left : HasSlots done.base.tasks = kept_first (λ b. Unit {0}) (λ b o. HasSlots b.tasks) slots_kept script n st tt slots in
     worked_keeps IsUnserved script budget st none (unserved_after script n done (omega (arith, left)))
 
 -- in every state that a run reaches nobody can be served
-pub reached_unserved : (script : Script) (budget n : ℕ) → serve_sem_flag (state_after script budget n).base (state_after script budget n).sem_flags ≡ None
+pub reached_unserved : (script : Script) (budget n : ℕ) → serve_object (state_after script budget n).base (state_after script budget n).objects ≡ None
 unfolding state_after
 reached_unserved script budget zero = start_unserved script
 reached_unserved script budget (suc n) = step_unserved script budget (state_after script budget n) (reached_slots script budget n) (reached_unserved script budget n)
@@ -147,7 +172,7 @@ start_up_to_date script t =
     let is : IsUpToDate t (state_start script).base =
     entry_each (λ u now. current_in now ≡ base_in now) no_slots 1 slot (entry_same (λ now. current_in now ≡ base_in now) no_slots 1 slot refl refl)
     (λ u apart. ap current_in (none_there 256 u) ∙ sym (ap base_in (none_there 256 u))) t in
-    start_keeps (λ b s. IsUpToDate t b) script is (λ cur. is)
+    start_keeps (λ b o. IsUpToDate t b) script is (λ cur. is)
 
 -- in every state that a run reaches each task's current priority is that of its definition
 pub reached_up_to_date : (script : Script) (budget n t : ℕ) → 1 ≤ t → current (state_after script budget n).base t ≡ current_of (state_after script budget n).base t
@@ -155,6 +180,6 @@ unfolding state_after
 reached_up_to_date script budget zero t one = start_up_to_date script t
 reached_up_to_date script budget (suc n) t one =
     let st : State = state_after script budget n in
-    worked_keeps (λ b s. IsUpToDate t b) script budget st (reached_up_to_date script budget n t one)
-    (settled_keeps (λ b s. IsUpToDate t b) (λ b s cur is. is) (λ b s is. is) script (st.steps + 1) (done_at script (st.steps + 1) (paced script (st.steps + 1) st)).state
+    worked_keeps (λ b o. IsUpToDate t b) script budget st (reached_up_to_date script budget n t one)
+    (settled_keeps (λ b o. IsUpToDate t b) (λ b o cur is. is) (λ b o is. is) script (st.steps + 1) (done_at script (st.steps + 1) (paced script (st.steps + 1) st)).state
     (settle_up_to_date (done_at script (st.steps + 1) (paced script (st.steps + 1) st)).state t one))

@@ -9,48 +9,22 @@ use Rattle.tk_types.specs.declared.task.Release.{Release}
 use Rattle.kernel_model.specs.Base.{Base, chosen, current, set_current}
 use Rattle.kernel_model.specs.Priority.{current_of, refresh, resettle, taken_from}
 use Rattle.kernel_model.specs.Rest.{IsAtRest}
-use Rattle.kernel_model.specs.SemFlags.{serve_sem_flag}
+use Rattle.kernel_model.specs.Objects.{serve_object}
 use Rattle.kernel_model.specs.Settle.{Event, refreshed, settle, served_within, follow_release, follow_each, with_releases, turned, dispatched, followed}
 use Rattle.kernel_model.specs.State.{State, state_start}
 use Rattle.kernel_model.specs.Trace.{start}
 use Rattle.kernel_model.specs.Views.{is_current}
 use Rattle.kernel_model.proofs.Reached.{start_unserved, start_up_to_date, unserved_after}
 use Rattle.kernel_model.proofs.Served.{next_served, with_parts}
-use Rattle.kernel_model.proofs.Settled.{settle_up_to_date}
+use Rattle.kernel_model.proofs.Settled.{settle_up_to_date, settled_none}
 use Rattle.kernel_model.proofs.StepKeeps.{settled_keeps, start_keeps}
 use Rattle.kernel_model.proofs.Tables.{itself}
 
 -- ---- nothing follows
 
-kept_if : (b c : Base) (same : Bool) → same ≡ true → cond same b c ≡ b
-kept_if b c true is = refl
-kept_if b c false is = absurd (cc is)
-
--- a task whose priority is that of its definition is left
-refresh_none : (b : Base) (t : ℕ) → current b t ≡ current_of b t → refresh b t ≡ b
-refresh_none b t same = kept_if b (set_current b t (current_of b t)) (current b t == current_of b t) (grind (arith, nat_tests, same))
-
-refresh_all : {A : Type 0} → (b : Base) (id : ℕ) (slots : List (Option A)) → 1 ≤ id → ((t : ℕ) → 1 ≤ t → current b t ≡ current_of b t) → fold refresh b (taken_from id slots) ≡ b
-refresh_all b id [] one same = refl
-refresh_all b id (None ∷ slots) one same = refresh_all b (id + 1) slots (omega arith) same
-refresh_all b id (Some k ∷ slots) one same = ap (λ c. fold refresh c (taken_from (id + 1) slots)) (refresh_none b id (same id one)) ∙ refresh_all b (id + 1) slots (omega arith) same
-
--- where each priority is that of its definition none is taken over
-pub resettle_none : (b : Base) → ((t : ℕ) → 1 ≤ t → current b t ≡ current_of b t) → resettle b ≡ b
-unfolding resettle
-resettle_none b same = refresh_all b 1 (drop 1 b.tasks) (omega arith) same
-
-served_none : (left : ℕ) (st : State) → serve_sem_flag st.base st.sem_flags ≡ None → served_within left st ≡ st
-unfolding served_within
-served_none zero st none = refl
-served_none (suc left) st none = ap (λ next. next_served left st (option_map (with_parts st) next)) none
-
 -- a state at rest has settled
-pub settle_none : (st : State) → IsAtRest st.base st.sem_flags → settle st ≡ st
-unfolding settle
-settle_none st rest =
-    let same : refreshed st ≡ st = ap (λ (b : Base). record st { base = b }) (resettle_none st.base rest.up_to_date) in
-    ap (served_within 256) same ∙ served_none 256 st rest.unserved
+settle_none : (st : State) → IsAtRest st.base st.objects → settle st ≡ st
+settle_none st rest = settled_none st rest.up_to_date rest.unserved
 
 releases_none : (script : Script) (n : ℕ) (st : State) → st.base.released ≡ [] → with_releases script n st ≡ record { state = st; lines = [] }
 unfolding with_releases follow_each
@@ -67,7 +41,7 @@ unfolding dispatched
 dispatched_none n st same = turned_none (is_current (chosen st.base) st.base.cur) n st same
 
 -- nothing follows from a state at rest
-pub followed_none : (script : Script) (n : ℕ) (st : State) → IsAtRest st.base st.sem_flags → followed script n st ≡ record { state = st; lines = [] }
+pub followed_none : (script : Script) (n : ℕ) (st : State) → IsAtRest st.base st.objects → followed script n st ≡ record { state = st; lines = [] }
 unfolding followed
 followed_none script n st rest =
     let settled : with_releases script n (settle st) ≡ record { state = st; lines = [] } = ap (with_releases script n) (settle_none st rest) ∙ releases_none script n st rest.followed in
@@ -99,10 +73,10 @@ unfolding followed dispatched
 followed_current script n st = turned_current _ n (with_releases script n (settle st)).state refl
 
 -- a state in whose table there is room for 256 tasks comes to rest
-pub followed_rest : (script : Script) (n : ℕ) (st : State) → length st.base.tasks ≤ 256 → IsAtRest (followed script n st).state.base (followed script n st).state.sem_flags
+pub followed_rest : (script : Script) (n : ℕ) (st : State) → length st.base.tasks ≤ 256 → IsAtRest (followed script n st).state.base (followed script n st).state.objects
 followed_rest script n st slots = record {
   unserved = unserved_after script n st slots;
-  up_to_date = λ t one. settled_keeps (λ b s. current b t ≡ current_of b t) (λ b s cur is. is) (λ b s is. is) script n st (settle_up_to_date st t one);
+  up_to_date = λ t one. settled_keeps (λ b o. current b t ≡ current_of b t) (λ b o cur is. is) (λ b o is. is) script n st (settle_up_to_date st t one);
   followed = followed_taken script n st;
   dispatched = followed_current script n st;
 }
@@ -113,10 +87,10 @@ start_current script = turned_current _ 0 (state_start script) refl
 
 start_taken : (script : Script) → (start script).state.base.released ≡ []
 unfolding state_start
-start_taken script = start_keeps (λ b s. b.released ≡ []) script refl (λ cur. refl)
+start_taken script = start_keeps (λ b o. b.released ≡ []) script refl (λ cur. refl)
 
 -- and so does the start
-pub start_rest : (script : Script) → IsAtRest (start script).state.base (start script).state.sem_flags
+pub start_rest : (script : Script) → IsAtRest (start script).state.base (start script).state.objects
 start_rest script = record {
   unserved = start_unserved script;
   up_to_date = λ t one. start_up_to_date script t;

@@ -13,7 +13,7 @@ use Rattle.tk_types.specs.declared.task.Phase.TheVariants.{Ready, Waiting}
 use Rattle.kernel_model.specs.Orders.{entry}
 use Rattle.kernel_model.specs.Base.{Base, task_at, base_in, base_of, current, current_in, is_waiting_phase, waits_somewhere, make_wait, release, set_current}
 use Rattle.kernel_model.specs.Priority.{current_of, refresh, resettle, taken_from}
-use Rattle.kernel_model.specs.SemFlags.{SemFlags, SemFlagParts, serve_sem_flag}
+use Rattle.kernel_model.specs.Objects.{Objects, Parts, serve_object}
 use Rattle.kernel_model.specs.Settle.{refreshed, served_within, settle}
 use Rattle.kernel_model.specs.State.{State}
 use Rattle.kernel_model.specs.Waiters.{waiting_count}
@@ -35,44 +35,44 @@ current_as_many : (b : Base) (t priority : ℕ) → waiting_count (set_current b
 current_as_many b t priority = entry_cases (λ c. waiting_count c ≡ waiting_count b) (task_at b t) b _ refl
     (λ k at. as_many b.tasks t (Some (record k { current = priority })) (ap waits_somewhere (sym at)))
 
-resettled_as_many : (b : Base) (s : SemFlags) → waiting_count (resettle b) ≡ waiting_count b
-resettled_as_many b s = resettle_keeps (λ c s. waiting_count c ≡ waiting_count b) (λ c s t changed same. current_as_many c t (current_of c t) ∙ same) b s refl
+resettled_as_many : (b : Base) (o : Objects) → waiting_count (resettle b) ≡ waiting_count b
+resettled_as_many b o = resettle_keeps (λ c o. waiting_count c ≡ waiting_count b) (λ c o t changed same. current_as_many c t (current_of c t) ∙ same) b o refl
 
 -- a serving ends one wait
-serving_ends_one : (b : Base) (s : SemFlags) (parts : SemFlagParts) → IsServing b s parts → waiting_count b ≡ waiting_count parts.base + 1
-serving_ends_one b s parts is = release_ends_one b is.task is.answer (waits_for_waits b is.task is.object is.waits) ∙ ap (λ c. waiting_count c + 1) (sym is.ends)
+serving_ends_one : (b : Base) (o : Objects) (parts : Parts) → IsServing b o parts → waiting_count b ≡ waiting_count parts.base + 1
+serving_ends_one b o parts is = release_ends_one b is.task is.answer (waits_for_waits b is.task is.object is.waits) ∙ ap (λ c. waiting_count c + 1) (sym is.ends)
 
 -- ---- none is left
 
 -- nobody can be served
-abbrev pub IsUnserved : Base → SemFlags → Type 0
-IsUnserved b s = serve_sem_flag b s ≡ None
+abbrev pub IsUnserved : Base → Objects → Type 0
+IsUnserved b o = serve_object b o ≡ None
 
-none_waiting : (b : Base) (s : SemFlags) (next : Option SemFlagParts) → serve_sem_flag b s ≡ next → waiting_count b ≤ 0 → IsUnserved b s
-none_waiting b s None is none = is
-none_waiting b s (Some parts) is none = let fewer = serving_ends_one b s parts (serving b s parts is) in absurd (omega (arith, fewer, none))
+none_waiting : (b : Base) (o : Objects) (next : Option Parts) → serve_object b o ≡ next → waiting_count b ≤ 0 → IsUnserved b o
+none_waiting b o None is none = is
+none_waiting b o (Some parts) is none = let fewer = serving_ends_one b o parts (serving b o parts is) in absurd (omega (arith, fewer, none))
 
-unserved_next : (left : ℕ) (st : State) (next : Option SemFlagParts) → serve_sem_flag st.base st.sem_flags ≡ next → waiting_count st.base ≤ suc left →
-    ((later : State) → waiting_count later.base ≤ left → IsUnserved (served_within left later).base (served_within left later).sem_flags) →
-    IsUnserved (next_served left st (option_map (with_parts st) next)).base (next_served left st (option_map (with_parts st) next)).sem_flags
+unserved_next : (left : ℕ) (st : State) (next : Option Parts) → serve_object st.base st.objects ≡ next → waiting_count st.base ≤ suc left →
+    ((later : State) → waiting_count later.base ≤ left → IsUnserved (served_within left later).base (served_within left later).objects) →
+    IsUnserved (next_served left st (option_map (with_parts st) next)).base (next_served left st (option_map (with_parts st) next)).objects
 unserved_next left st None is most rest = is
 unserved_next left st (Some parts) is most rest =
-    let fewer = serving_ends_one st.base st.sem_flags parts (serving st.base st.sem_flags parts is) in
-    let same = resettled_as_many parts.base parts.table in
+    let fewer = serving_ends_one st.base st.objects parts (serving st.base st.objects parts is) in
+    let same = resettled_as_many parts.base parts.objects in
     rest (refreshed (with_parts st parts)) (omega (arith, fewer, same, most))
 
 -- with a serving for each task that waits none is left that can be served
-served_unserved : (left : ℕ) (st : State) → waiting_count st.base ≤ left → IsUnserved (served_within left st).base (served_within left st).sem_flags
+served_unserved : (left : ℕ) (st : State) → waiting_count st.base ≤ left → IsUnserved (served_within left st).base (served_within left st).objects
 unfolding served_within
-served_unserved zero st most = none_waiting st.base st.sem_flags (serve_sem_flag st.base st.sem_flags) refl most
-served_unserved (suc left) st most = unserved_next left st (serve_sem_flag st.base st.sem_flags) refl most (served_unserved left)
+served_unserved zero st most = none_waiting st.base st.objects (serve_object st.base st.objects) refl most
+served_unserved (suc left) st most = unserved_next left st (serve_object st.base st.objects) refl most (served_unserved left)
 
 -- once a state has settled, nobody can be served
-pub settle_unserved : (st : State) → length st.base.tasks ≤ 256 → serve_sem_flag (settle st).base (settle st).sem_flags ≡ None
+pub settle_unserved : (st : State) → length st.base.tasks ≤ 256 → serve_object (settle st).base (settle st).objects ≡ None
 unfolding settle
 settle_unserved st slots =
     let most = count_by-le-length waits_somewhere st.base.tasks in
-    let same = resettled_as_many st.base st.sem_flags in
+    let same = resettled_as_many st.base st.objects in
     served_unserved 256 (refreshed st) (omega (arith, most, same, slots))
 
 -- ---- the priorities
@@ -188,11 +188,39 @@ pub waiting_up_to_date : (b : Base) (t u object : ℕ) (order : Order) (timeout 
 waiting_up_to_date b t u object order (pos n) is = entry_cases (IsUpToDate u) (task_at b t) b _ is (λ k at. row_up_to_date b t u k (Some (record k { phase = Waiting object; queue = order })) at refl refl is)
 waiting_up_to_date b t u object order (negsuc n) is = entry_cases (IsUpToDate u) (task_at b t) b _ is (λ k at. row_up_to_date b t u k (Some (record k { phase = Waiting object; queue = order })) at refl refl is)
 
-serving_up_to_date : (t : ℕ) (b : Base) (s : SemFlags) (parts : SemFlagParts) → IsServing b s parts → IsUpToDate t b → IsUpToDate t parts.base
-serving_up_to_date t b s parts served is = subst (IsUpToDate t) (sym served.ends) (released_up_to_date b served.task t served.answer is)
+serving_up_to_date : (t : ℕ) (b : Base) (o : Objects) (parts : Parts) → IsServing b o parts → IsUpToDate t b → IsUpToDate t parts.base
+serving_up_to_date t b o parts served is = subst (IsUpToDate t) (sym served.ends) (released_up_to_date b served.task t served.answer is)
 
 -- once a state has settled, each task's current priority is that of its definition
 pub settle_up_to_date : (st : State) (t : ℕ) → 1 ≤ t → current (settle st).base t ≡ current_of (settle st).base t
 unfolding settle
 settle_up_to_date st t one =
-    served_keeps (λ b s. IsUpToDate t b) (λ b s u changed is. current_up_to_date b u t is) (serving_up_to_date t) 256 (refreshed st) (resettled_up_to_date st.base t one)
+    served_keeps (λ b o. IsUpToDate t b) (λ b o u changed is. current_up_to_date b u t is) (serving_up_to_date t) 256 (refreshed st) (resettled_up_to_date st.base t one)
+
+-- ---- settling of what is settled, and of what one serving settles
+
+refreshed_same : (st : State) → AllUpToDate st.base → refreshed st ≡ st
+refreshed_same st all = ap (λ base. record st { base = base }) (resettled_same st.base all)
+
+served_none : (left : ℕ) (st : State) → IsUnserved st.base st.objects → served_within left st ≡ st
+unfolding served_within
+served_none zero st none = refl
+served_none (suc left) st none = ap (λ next. next_served left st (option_map (with_parts st) next)) none
+
+served_once : (left : ℕ) (st : State) (parts : Parts) → serve_object st.base st.objects ≡ Some parts → served_within (suc left) st ≡ served_within left (refreshed (with_parts st parts))
+unfolding served_within
+served_once left st parts is = ap (λ next. next_served left st (option_map (with_parts st) next)) is
+
+-- a settled state stays
+pub settled_none : (st : State) → AllUpToDate st.base → IsUnserved st.base st.objects → settle st ≡ st
+unfolding settle
+settled_none st all none = ap (served_within 256) (refreshed_same st all) ∙ served_none 256 st none
+
+-- and where a serving leaves a settled state, that is what comes of it
+pub settled_once : (st : State) (parts : Parts) → AllUpToDate st.base → serve_object st.base st.objects ≡ Some parts → AllUpToDate parts.base → IsUnserved parts.base parts.objects → settle st ≡ with_parts st parts
+unfolding settle
+settled_once st parts all is after none =
+    ap (served_within 256) (refreshed_same st all)
+    ∙ served_once 255 st parts is
+    ∙ ap (served_within 255) (refreshed_same (with_parts st parts) after)
+    ∙ served_none 255 (with_parts st parts) none

@@ -24,7 +24,8 @@ use Rattle.kernel_model.specs.Checks.{Check, ◌otherwise◌, natural, within, p
 use Rattle.kernel_model.specs.Views.{is_current}
 use Rattle.kernel_model.specs.Base.{Base, queue, task_at, limited, current, free_task, has_room, is_waiting_phase, wakeups_of, waits_for, take_bytes, create, delete, make_ready, make_wait, make_dormant, release, suspend, resume, resumed, set_base, set_current, set_wakeups, rotate}
 use Rattle.kernel_model.specs.Priority.{current_of}
-use Rattle.kernel_model.specs.SemFlags.{SemFlags, SemFlagParts, sem_at, flag_at, sem_object, flag_object, has_bits}
+use Rattle.kernel_model.specs.Objects.{Objects, Parts}
+use Rattle.kernel_model.specs.SemFlags.{SemFlags, sem_at, flag_at, sem_object, flag_object, has_bits}
 use Rattle.kernel_model.specs.SemFlagCalls
 use Rattle.kernel_model.specs.SemFlagCalls.{SemFlagDone, sem_flag_checked, sem_flag_call, create_sem, create_flag, delete_sem, delete_flag, signal_sem, set_flag, clear_flag, refer_sem, refer_flag, wait_sem, wait_flag, first_ended, end_first, sem_waits_ended, flag_waits_ended, serves_at_once, waits_or_ends, waited_for_sem, waited_for_flag}
 use Rattle.kernel_model.specs.TaskCalls.{TaskDone, finished, task_call, create_task, delete_task, start_task, exit_task, terminate_task, change_priority, rotate_ready, get_task, refer_task, sleep, delay, wake_up, cancel_wakeups, release_wait, suspend_task, resume_task, create_checks, delete_checks, start_checks, terminate_checks, change_checks, named_checks, waiting_checks, wake_up_checks, cancel_checks, release_checks, suspend_checks, resume_checks, slept, delayed, woken, rebased, new_base, named, rotated_priority, shown, enabled_after, caller, sleep_object, delay_object}
@@ -196,22 +197,22 @@ family_keeps_table T write b s who (rows.DelFlg id) has = row_keeps_table T (Sem
 
 -- ---- a step
 
-serving_keeps_table : (T : List (Option Task) → Type 0) → IsWritable T → (b : Base) (s : SemFlags) (parts : SemFlagParts) → IsServing b s parts → OfTable T b → OfTable T parts.base
-serving_keeps_table T write b s parts is has = subst (OfTable T) (sym is.ends) (release_keeps_table T write b is.task is.answer has)
+serving_keeps_table : (T : List (Option Task) → Type 0) → IsWritable T → (b : Base) (o : Objects) (parts : Parts) → IsServing b o parts → OfTable T b → OfTable T parts.base
+serving_keeps_table T write b o parts is has = subst (OfTable T) (sym is.ends) (release_keeps_table T write b is.task is.answer has)
 
 -- every step keeps what survives the writing of any slot
-pub table_kept : (T : List (Option Task) → Type 0) → IsWritable T → IsKept (λ b. Unit {0}) (λ b s. T b.tasks)
+pub table_kept : (T : List (Option Task) → Type 0) → IsWritable T → IsKept (λ b. Unit {0}) (λ b o. T b.tasks)
 table_kept T write = record {
-  task_calls = λ b s who c before has. call_keeps_table T write b who c has;
-  sem_flag_calls = λ b s who c before has. family_keeps_table T write b s who c has;
-  deleted = λ b s t has. delete_keeps_table T write b t has;
-  refreshed = λ b s t changed has. set_current_keeps_table T write b t (current_of b t) has;
+  task_calls = λ b o who c before has. call_keeps_table T write b who c has;
+  sem_flag_calls = λ b o who c before has. family_keeps_table T write b o.sem_flags who c has;
+  deleted = λ b o t has. delete_keeps_table T write b t has;
+  refreshed = λ b o t changed has. set_current_keeps_table T write b t (current_of b t) has;
   served = serving_keeps_table T write;
-  released = λ b s t answer has. release_keeps_table T write b t answer has;
-  taken = λ b s has. has;
-  advanced = λ b s has. has;
-  turned = λ b s cur has. has;
-  emptied = λ b s has. has;
+  released = λ b o t answer has. release_keeps_table T write b t answer has;
+  taken = λ b o has. has;
+  advanced = λ b o has. has;
+  turned = λ b o cur has. has;
+  emptied = λ b o has. has;
 }
 
 -- ---- the number of slots
@@ -220,5 +221,5 @@ abbrev pub HasSlots : List (Option Task) → Type 0
 HasSlots tasks = length tasks ≡ 256
 
 -- the table keeps its slots
-pub slots_kept : IsKept (λ b. Unit {0}) (λ b s. HasSlots b.tasks)
+pub slots_kept : IsKept (λ b. Unit {0}) (λ b o. HasSlots b.tasks)
 slots_kept = table_kept HasSlots (λ tasks t slot has. length-set tasks t slot ∙ has)

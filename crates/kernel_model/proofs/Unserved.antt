@@ -1,5 +1,5 @@
--- Nobody can be served exactly where no object serves anyone; and where one object alone can serve, what is served first is
--- what it serves.
+-- No semaphore and no flag can serve anyone exactly where none by itself does; and where one alone can serve, what is served
+-- first is what it serves.
 use Rattle.std.proofs.Common.{◌≡◌, ℕ, ◌+◌, ◌≤◌, Bool, true, false, List, [], ◌∷◌, Option, Some, None, drop, refl, ◌∙◌, ap, sym, arith, ◌⊎◌, inl, inr}
 use Rattle.std.specs.Bool.{◌==◌}
 use Rattle.std.proofs.lemmas.Bool.Decides.{nat_tests}
@@ -10,7 +10,11 @@ use Rattle.kernel_model.specs.Base.{Base}
 use Rattle.kernel_model.specs.Priority.{taken_from}
 use Rattle.kernel_model.specs.SemFlags.{SemFlags, SemFlagParts, sem_at, flag_at, serve_sem, serve_sem_at, serve_flag, serve_flag_at, first_served, or_else, serve_sem_flag}
 use Rattle.kernel_model.proofs.Reached.{both_none, neither}
-use Rattle.kernel_model.proofs.Settled.{IsUnserved, Stands, in_table}
+use Rattle.kernel_model.proofs.Settled.{Stands, in_table}
+
+-- no semaphore and no flag can serve anyone
+abbrev pub AreUnserved : Base → SemFlags → Type 0
+AreUnserved b s = serve_sem_flag b s ≡ None
 
 -- ---- each object by itself
 
@@ -32,13 +36,13 @@ flag_stands b s id (inl free) none = ap (serve_flag_at b s id) free
 flag_stands b s id (inr stands) none = stands_none (serve_flag b s) id (taken_from 1 (drop 1 s.flags)) none stands
 
 -- where nobody can be served, no semaphore serves anyone
-pub sems_unserved : (b : Base) (s : SemFlags) → IsUnserved b s → (id : ℕ) → 1 ≤ id → serve_sem b s id ≡ None
+pub sems_unserved : (b : Base) (s : SemFlags) → AreUnserved b s → (id : ℕ) → 1 ≤ id → serve_sem b s id ≡ None
 unfolding serve_sem_flag
 sems_unserved b s none id one =
     sem_stands b s id (in_table id s.sems one) (neither (first_served (serve_sem b s) (taken_from 1 (drop 1 s.sems))) (first_served (serve_flag b s) (taken_from 1 (drop 1 s.flags))) none).0
 
 -- and no event flag does
-pub flags_unserved : (b : Base) (s : SemFlags) → IsUnserved b s → (id : ℕ) → 1 ≤ id → serve_flag b s id ≡ None
+pub flags_unserved : (b : Base) (s : SemFlags) → AreUnserved b s → (id : ℕ) → 1 ≤ id → serve_flag b s id ≡ None
 unfolding serve_sem_flag
 flags_unserved b s none id one =
     flag_stands b s id (in_table id s.flags one) (neither (first_served (serve_sem b s) (taken_from 1 (drop 1 s.sems))) (first_served (serve_flag b s) (taken_from 1 (drop 1 s.flags))) none).1
@@ -54,7 +58,7 @@ all_none serve from (Some k ∷ slots) one each =
     both_none (serve from) (first_served serve (taken_from (from + 1) slots)) (each from one) (all_none serve (from + 1) slots (omega (arith, one)) each)
 
 -- where no semaphore serves anyone, and no event flag does, nobody can be served
-pub none_unserved : (b : Base) (s : SemFlags) → ((id : ℕ) → 1 ≤ id → serve_sem b s id ≡ None) → ((id : ℕ) → 1 ≤ id → serve_flag b s id ≡ None) → IsUnserved b s
+pub none_unserved : (b : Base) (s : SemFlags) → ((id : ℕ) → 1 ≤ id → serve_sem b s id ≡ None) → ((id : ℕ) → 1 ≤ id → serve_flag b s id ≡ None) → AreUnserved b s
 unfolding serve_sem_flag
 none_unserved b s sems flags =
     both_none (first_served (serve_sem b s) (taken_from 1 (drop 1 s.sems))) (first_served (serve_flag b s) (taken_from 1 (drop 1 s.flags)))

@@ -31,12 +31,12 @@ abbrev pub after_task_call : State → TaskDone → CallDone
 after_task_call st done = record { state = record st { base = done.base }; outcome = done.outcome }
 
 abbrev pub after_sem_flag_call : State → SemFlagDone → CallDone
-after_sem_flag_call st done = record { state = record st { base = done.base; sem_flags = done.table }; outcome = done.outcome }
+after_sem_flag_call st done = record { state = record st { base = done.base; objects = record st.objects { sem_flags = done.table } }; outcome = done.outcome }
 
 -- a call of a family, by its row
 unfoldable pub family_call : State → ℕ → Call → CallDone
 family_call st t (calls.Task call) = after_task_call st (task_call st.base (whos.Task t) call)
-family_call st t (calls.SemFlag call) = after_sem_flag_call st (sem_flag_call st.base st.sem_flags (whos.Task t) call)
+family_call st t (calls.SemFlag call) = after_sem_flag_call st (sem_flag_call st.base st.objects.sem_flags (whos.Task t) call)
 -- the other families aren't built yet: a script that has one is refused before it runs
 family_call st t _ = record { state = st; outcome = failed er.NoSpt }
 

@@ -12,6 +12,7 @@ pub mod TaskCalls
 pub mod Precedence
 pub mod Waiters
 pub mod SemFlags
+pub mod Objects
 pub mod SemFlagCalls
 pub mod Trial
 pub mod Waits

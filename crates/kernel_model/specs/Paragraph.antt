@@ -21,14 +21,14 @@ use Rattle.kernel_model.specs.Trial.{asked_count, asked_wish, back_in, ended_wit
 
 -- the answer of a task's wait, where settling ended it
 abbrev pub ended_in : ℕ → State → Option Answer
-ended_in t settled = ended_with t (record { base = settled.base; table = settled.sem_flags })
+ended_in t settled = ended_with t (record { base = settled.base; table = settled.objects.sem_flags })
 
 -- settling didn't end the wait: with a time-out of 0 the state is that of before, and else the settled one
 abbrev pub over_or_waits : State → State → ℤ → SemFlagDone
 over_or_waits old settled timeout =
     if int_eq timeout (pos 0)
-    then record { base = old.base; table = old.sem_flags; outcome = failed er.TmOut }
-    else record { base = settled.base; table = settled.sem_flags; outcome = Blocked }
+    then record { base = old.base; table = old.objects.sem_flags; outcome = failed er.TmOut }
+    else record { base = settled.base; table = settled.objects.sem_flags; outcome = Blocked }
 
 -- ---- semaphores
 
@@ -36,14 +36,14 @@ over_or_waits old settled timeout =
 abbrev pub sem_joined : State → ℕ → ℕ → ℕ → ℤ → Semaphore → State
 sem_joined st t id n timeout k = record st {
   base = make_wait st.base t (sem_object id) k.order timeout;
-  sem_flags = asked_count st.sem_flags t n;
+  objects = record st.objects { sem_flags = asked_count st.objects.sem_flags t n };
 }
 
 -- the call returns: the caller has its old stamp again, and what it had asked for before
 abbrev pub sem_returns : State → State → ℕ → Answer → SemFlagDone
 sem_returns old settled t answer = record {
   base = back_in old.base settled.base t;
-  table = record settled.sem_flags { counts = old.sem_flags.counts };
+  table = record settled.objects.sem_flags { counts = old.objects.sem_flags.counts };
   outcome = Returned answer;
 }
 
@@ -60,13 +60,13 @@ sem_paragraph st t id n timeout k = sem_after st (settle (sem_joined st t id n t
 abbrev pub flag_joined : State → ℕ → ℕ → FlagWish → ℤ → EventFlag → State
 flag_joined st t id wish timeout k = record st {
   base = make_wait st.base t (flag_object id) k.order timeout;
-  sem_flags = asked_wish st.sem_flags t wish;
+  objects = record st.objects { sem_flags = asked_wish st.objects.sem_flags t wish };
 }
 
 abbrev pub flag_returns : State → State → ℕ → Answer → SemFlagDone
 flag_returns old settled t answer = record {
   base = back_in old.base settled.base t;
-  table = record settled.sem_flags { wishes = old.sem_flags.wishes };
+  table = record settled.objects.sem_flags { wishes = old.objects.sem_flags.wishes };
   outcome = Returned answer;
 }
 

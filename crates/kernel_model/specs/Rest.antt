@@ -3,11 +3,11 @@
 use Rattle.std.specs.Prelude.{ℕ, ◌≡◌, ◌≤◌, true, [], None}
 use Rattle.kernel_model.specs.Base.{Base, chosen, current}
 use Rattle.kernel_model.specs.Priority.{current_of}
-use Rattle.kernel_model.specs.SemFlags.{SemFlags, serve_sem_flag}
+use Rattle.kernel_model.specs.Objects.{Objects, serve_object}
 use Rattle.kernel_model.specs.Views.{is_current}
 
-pub record IsAtRest (b : Base) (s : SemFlags) : Type 0 where
-  pub unserved : serve_sem_flag b s ≡ None
+pub record IsAtRest (b : Base) (o : Objects) : Type 0 where
+  pub unserved : serve_object b o ≡ None
   pub up_to_date : (t : ℕ) → 1 ≤ t → current b t ≡ current_of b t
   pub followed : b.released ≡ []
   pub dispatched : is_current (chosen b) b.cur ≡ true

@@ -8,7 +8,7 @@ use Rattle.tk_types.specs.declared.line.Line.{Line}
 use Rattle.tk_types.specs.declared.line.Line.TheVariants as lines
 use Rattle.kernel_model.specs.Base.{chosen, dispatch}
 use Rattle.kernel_model.specs.Priority.{resettle}
-use Rattle.kernel_model.specs.SemFlags.{serve_sem_flag}
+use Rattle.kernel_model.specs.Objects.{serve_object}
 use Rattle.kernel_model.specs.Statements.{call_before, give}
 use Rattle.kernel_model.specs.State.{State, frame_of, with_frame}
 use Rattle.kernel_model.specs.Views.{is_current}
@@ -28,7 +28,7 @@ refreshed st = record st { base = resettle st.base }
 
 -- the first object by kind and ID that can serve a waiter serves one
 abbrev pub serve_first : State → Option State
-serve_first st = option_map (λ parts. record st { base = parts.base; sem_flags = parts.table }) (serve_sem_flag st.base st.sem_flags)
+serve_first st = option_map (λ parts. record st { base = parts.base; objects = parts.objects }) (serve_object st.base st.objects)
 
 -- waiters are served one after another, at most so many, and after each one changed priorities are taken over
 unfoldable pub served_within : ℕ → State → State

@@ -4,12 +4,12 @@ use Rattle.std.specs.List.{slice_index_or}
 use Rattle.tk_types.specs.declared.script.Script.{Script}
 use Rattle.tk_types.specs.declared.run.Frame.{Frame}
 use Rattle.kernel_model.specs.Base.{Base, base_start}
-use Rattle.kernel_model.specs.SemFlags.{SemFlags, sem_flags_start}
+use Rattle.kernel_model.specs.Objects.{Objects, objects_start}
 use Rattle.kernel_model.specs.Statements.{memory_size, start_frame}
 
 pub record State : Type 0 where
   pub base : Base
-  pub sem_flags : SemFlags  -- semaphores and event flags
+  pub objects : Objects  -- semaphores and event flags
   pub bodies : List ℕ  -- by task: the body that a start begins, 256 places
   pub frames : List Frame  -- by task: where its body is being done, 256 places
   pub memory : List ℕ  -- the script's memory, 65,536 bytes
@@ -31,7 +31,7 @@ with_frame st t frame = record st { frames = slice_set st.frames t frame }
 unfoldable pub state_start : Script → State
 state_start script = record {
   base = base_start script.boot.priority;
-  sem_flags = sem_flags_start;
+  objects = objects_start;
   bodies = slice_set (replicate 256 0) 1 script.boot.body;
   frames = slice_set (replicate 256 no_frame) 1 (start_frame script.boot.body (pos 0) (pos 0));
   memory = replicate memory_size 0;

@@ -10,14 +10,18 @@ use Rattle.tk_types.specs.declared.task.Order.TheVariants.{Fifo}
 use Rattle.kernel_model.specs.Once.{times}
 use Rattle.kernel_model.specs.Base.{Base, task_at, waits_for}
 use Rattle.kernel_model.specs.SemFlags.{SemFlags, sem_at, flag_at}
+use Rattle.kernel_model.specs.Objects.{Objects}
+
+-- how the waiters of a semaphore or an event flag queue, where there is that object: as its attributes say
+abbrev pub sem_flag_order : SemFlags → ℕ → Option Order
+sem_flag_order s object =
+    if nat_le 64 object && nat_lt object 128 then option_map (λ k. k.order) (sem_at s (object - 63))
+    else (if nat_le 128 object && nat_lt object 192 then option_map (λ k. k.order) (flag_at s (object - 127)) else None)
 
 -- how the waiters of an object queue, where there is that object: those that sleep and those in a delay by the beginning
--- of their waits, and those of a semaphore or an event flag as its attributes say
-abbrev pub order_for : SemFlags → ℕ → Option Order
-order_for s object =
-    if nat_lt object 2 then Some Fifo
-    else (if nat_le 64 object && nat_lt object 128 then option_map (λ k. k.order) (sem_at s (object - 63))
-    else (if nat_le 128 object && nat_lt object 192 then option_map (λ k. k.order) (flag_at s (object - 127)) else None))
+-- of their waits, and the others as their object says
+abbrev pub order_for : Objects → ℕ → Option Order
+order_for o object = if nat_lt object 2 then Some Fifo else sem_flag_order o.sem_flags object
 
 abbrev pub FitsPhase : (ℕ → Option Order) → Order → Phase → Type 0
 FitsPhase orders by (Waiting object) = orders object ≡ Some by
@@ -32,8 +36,8 @@ pub record StandInOrder (orders : ℕ → Option Order) (b : Base) : Type 0 wher
   pub each : (t : ℕ) → FitsRow orders (task_at b t)
 
 -- each task that waits stands in the queue of an object that there is, in its order
-abbrev pub IsOrderly : Base → SemFlags → Type 0
-IsOrderly b s = StandInOrder (order_for s) b
+abbrev pub IsOrderly : Base → Objects → Type 0
+IsOrderly b o = StandInOrder (order_for o) b
 
 -- each task that waits has its places among the stamps
 pub record HavePlaces (b : Base) : Type 0 where

@@ -22,6 +22,7 @@ ghost use Rattle.kernel_model.specs.Base.{Base, chosen, current, dispatch, is_re
 ghost use Rattle.kernel_model.specs.Checks.{failed};
 ghost use Rattle.kernel_model.specs.Events.{due_event, insert_event, limit_of};
 ghost use Rattle.kernel_model.specs.Once.{IsOnce, times};
+ghost use Rattle.kernel_model.specs.Objects.{serve_object};
 ghost use Rattle.kernel_model.specs.Orders.{without};
 ghost use Rattle.kernel_model.specs.Paragraph.{flag_paragraph, sem_paragraph};
 ghost use Rattle.kernel_model.specs.Precedence.{KeepsPlace, NoneReady, Precedes, StandsLast, gives_place_away};
@@ -178,13 +179,13 @@ pub fn a_waiting_call_is_its_trial()
 /// number of an event flag, and the IDs of objects and tasks begin at 1.
 pub fn a_waiting_call_is_the_paragraph()
     ensures semaphore { (st : State) (t id n : ℕ) (timeout : ℤ) (k : Semaphore) → MayWait st.base t →
-        sem_at st.sem_flags id ≡ Some k → 1 ≤ id → length st.sem_flags.sems ≤ 65 → t < length st.sem_flags.counts →
-        serve_sem_flag st.base st.sem_flags ≡ None → ((u : ℕ) → 1 ≤ u → current st.base u ≡ current_of st.base u) →
-        waited_for_sem st.base st.sem_flags t id n timeout (Some k) ≡ sem_paragraph st t id n timeout k }
+        sem_at st.objects.sem_flags id ≡ Some k → 1 ≤ id → length st.objects.sem_flags.sems ≤ 65 → t < length st.objects.sem_flags.counts →
+        serve_object st.base st.objects ≡ None → ((u : ℕ) → 1 ≤ u → current st.base u ≡ current_of st.base u) →
+        waited_for_sem st.base st.objects.sem_flags t id n timeout (Some k) ≡ sem_paragraph st t id n timeout k }
     ensures event_flag { (st : State) (t id : ℕ) (wish : FlagWish) (timeout : ℤ) (k : EventFlag) → MayWait st.base t →
-        flag_at st.sem_flags id ≡ Some k → 1 ≤ id → length st.sem_flags.sems ≤ 65 → t < length st.sem_flags.wishes →
-        serve_sem_flag st.base st.sem_flags ≡ None → ((u : ℕ) → 1 ≤ u → current st.base u ≡ current_of st.base u) →
-        waited_for_flag st.base st.sem_flags t id wish timeout (Some k) ≡ flag_paragraph st t id wish timeout k }
+        flag_at st.objects.sem_flags id ≡ Some k → 1 ≤ id → length st.objects.sem_flags.sems ≤ 65 → t < length st.objects.sem_flags.wishes →
+        serve_object st.base st.objects ≡ None → ((u : ℕ) → 1 ≤ u → current st.base u ≡ current_of st.base u) →
+        waited_for_flag st.base st.objects.sem_flags t id wish timeout (Some k) ≡ flag_paragraph st t id wish timeout k }
 {}
 
 /// With a time-out of 0 a waiting call that isn't served changes nothing: where a semaphore doesn't have the count that is
@@ -208,10 +209,10 @@ pub fn settling_serves_until_none_can_be()
         waiting_count b ≡ waiting_count parts.base + 1 }
     ensures event_flag { (b : Base) (s : SemFlags) (id : ℕ) (parts : SemFlagParts) → serve_flag b s id ≡ Some parts →
         waiting_count b ≡ waiting_count parts.base + 1 }
-    ensures none_left { (st : State) → length st.base.tasks ≤ 256 → serve_sem_flag (settle st).base (settle st).sem_flags ≡ None }
+    ensures none_left { (st : State) → length st.base.tasks ≤ 256 → serve_object (settle st).base (settle st).objects ≡ None }
     ensures priorities { (st : State) (t : ℕ) → 1 ≤ t → current (settle st).base t ≡ current_of (settle st).base t }
     ensures reached { (script : Script) (budget n : ℕ) →
-        serve_sem_flag (state_after script budget n).base (state_after script budget n).sem_flags ≡ None }
+        serve_object (state_after script budget n).base (state_after script budget n).objects ≡ None }
     ensures reached_priorities { (script : Script) (budget n t : ℕ) → 1 ≤ t →
         current (state_after script budget n).base t ≡ current_of (state_after script budget n).base t }
 {}
@@ -220,9 +221,9 @@ pub fn settling_serves_until_none_can_be()
 /// current one, an event that touched neither the base nor the objects is followed by no change and no line. The start is at
 /// rest, and all that follows an event leaves a state at rest.
 pub fn nothing_follows_from_a_state_at_rest()
-    ensures nothing { (script : Script) (n : ℕ) (st : State) → IsAtRest st.base st.sem_flags →
+    ensures nothing { (script : Script) (n : ℕ) (st : State) → IsAtRest st.base st.objects →
         followed script n st ≡ record { state = st; lines = [] } }
-    ensures start { (script : Script) → IsAtRest (start script).state.base (start script).state.sem_flags }
+    ensures start { (script : Script) → IsAtRest (start script).state.base (start script).state.objects }
     ensures comes { (script : Script) (n : ℕ) (st : State) → length st.base.tasks ≤ 256 →
-        IsAtRest (followed script n st).state.base (followed script n st).state.sem_flags }
+        IsAtRest (followed script n st).state.base (followed script n st).state.objects }
 {}

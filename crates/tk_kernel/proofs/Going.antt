@@ -23,11 +23,11 @@ use Rattle.tk_kernel.specs.Budgets.{IsGoing}
 -- the parts of the start are the start
 pub started : (script : Script) (inside base : Base) (table : SemFlags) (bodies : List ℕ) (frames : List Frame) (frame : Frame) (memory : List ℕ) → inside ≡ base → base ≡ base_start script.boot.priority → table ≡ sem_flags_start → bodies ≡ replicate 256 0 → frames ≡ replicate 256 no_frame →
     frame ≡ start_frame script.boot.body (pos 0) (pos 0) → memory ≡ replicate memory_size 0 →
-    record { base = inside; sem_flags = table; bodies = slice_set bodies 1 script.boot.body; frames = slice_set frames 1 frame; memory = memory; ticks = 0; halted = false; steps = 0 } ≡ state_start script
+    record { base = inside; objects = record { sem_flags = table }; bodies = slice_set bodies 1 script.boot.body; frames = slice_set frames 1 frame; memory = memory; ticks = 0; halted = false; steps = 0 } ≡ state_start script
 unfolding state_start
 started script inside base table bodies frames frame memory same start no_objects no_bodies no_frames first empty =
     let with_parts : Base → SemFlags → List ℕ → List Frame → Frame → List ℕ → State =
-    λ b s bs fs f m. record { base = b; sem_flags = s; bodies = slice_set bs 1 script.boot.body; frames = slice_set fs 1 f; memory = m; ticks = 0; halted = false; steps = 0 } in
+    λ b s bs fs f m. record { base = b; objects = record { sem_flags = s }; bodies = slice_set bs 1 script.boot.body; frames = slice_set fs 1 f; memory = m; ticks = 0; halted = false; steps = 0 } in
     ap (λ (b : Base). with_parts b table bodies frames frame memory) (same ∙ start)
     ∙ (ap (λ (s : SemFlags). with_parts (base_start script.boot.priority) s bodies frames frame memory) no_objects
     ∙ (ap (λ (bs : List ℕ). with_parts (base_start script.boot.priority) sem_flags_start bs frames frame memory) no_bodies
@@ -44,11 +44,11 @@ going_at_start script budget first state runnable low high at_first at_state =
       limit = high;
       left = λ f o. let none : state.steps ≡ 0 = ap (λ st. st.steps) at ∙ start_unstepped script in omega arith;
       counts = λ f o. subst IsCounted (sym at) (start_counted script);
-      orderly = λ f o. subst (λ (st : State). IsOrderly st.base st.sem_flags) (sym at) (start_orderly script);
-      rest = λ f o. subst (λ (st : State). IsAtRest st.base st.sem_flags) (sym at) (start_rest script);
+      orderly = λ f o. subst (λ (st : State). IsOrderly st.base st.objects) (sym at) (start_orderly script);
+      rest = λ f o. subst (λ (st : State). IsAtRest st.base st.objects) (sym at) (start_rest script);
     }
 
-pub going_after_step : (script : Script) (budget : ℕ) (old new : State) (over : Option End) (failed : Bool) → IsRunnable script → budget ≤ 1000000 → old.steps < budget → IsCounted old → IsOrderly new.base new.sem_flags → IsAtRest new.base new.sem_flags → new ≡ (step script budget old).state → over ≡ (step script budget old).over → IsGoing script budget new over failed
+pub going_after_step : (script : Script) (budget : ℕ) (old new : State) (over : Option End) (failed : Bool) → IsRunnable script → budget ≤ 1000000 → old.steps < budget → IsCounted old → IsOrderly new.base new.objects → IsAtRest new.base new.objects → new ≡ (step script budget old).state → over ≡ (step script budget old).over → IsGoing script budget new over failed
 going_after_step script budget old new over failed runnable high below counts orderly rest at_new at_over = record {
   runnable = runnable;
   limit = high;
@@ -63,37 +63,37 @@ none_left None differs = refl
 none_left (Some end) differs = absurd (differs end refl)
 
 -- each task that waits stands in its order after what is done at a step
-pub done_leaves_order : (script : Script) (n : ℕ) (old ready now : State) → HavePlaces old.base → IsOrderly old.base old.sem_flags → ready ≡ paced script n old → now ≡ (done_at script n ready).state → IsOrderly now.base now.sem_flags
+pub done_leaves_order : (script : Script) (n : ℕ) (old ready now : State) → HavePlaces old.base → IsOrderly old.base old.objects → ready ≡ paced script n old → now ≡ (done_at script n ready).state → IsOrderly now.base now.objects
 done_leaves_order script n old ready now places all at_ready at_now =
-    subst (λ (st : State). IsOrderly st.base st.sem_flags) (sym (at_now ∙ ap (λ (st : State). (done_at script n st).state) at_ready)) (first_orderly script n old places all)
+    subst (λ (st : State). IsOrderly st.base st.objects) (sym (at_now ∙ ap (λ (st : State). (done_at script n st).state) at_ready)) (first_orderly script n old places all)
 
 -- and after the step
-pub step_leaves_order : (script : Script) (n : ℕ) (old done now : State) → HavePlaces old.base → IsOrderly old.base old.sem_flags → done ≡ (worked script n old).state → now ≡ record done { steps = n } → IsOrderly now.base now.sem_flags
+pub step_leaves_order : (script : Script) (n : ℕ) (old done now : State) → HavePlaces old.base → IsOrderly old.base old.objects → done ≡ (worked script n old).state → now ≡ record done { steps = n } → IsOrderly now.base now.objects
 step_leaves_order script n old done now places all at_done at_now =
-    let worked_on : IsOrderly done.base done.sem_flags = subst (λ (st : State). IsOrderly st.base st.sem_flags) (sym at_done) (worked_orderly script n old places all) in
-    subst (λ (st : State). IsOrderly st.base st.sem_flags) (sym at_now) worked_on
+    let worked_on : IsOrderly done.base done.objects = subst (λ (st : State). IsOrderly st.base st.objects) (sym at_done) (worked_orderly script n old places all) in
+    subst (λ (st : State). IsOrderly st.base st.objects) (sym at_now) worked_on
 
 -- ---- states at rest
 
 -- where what was done at a step leaves the state at rest, nothing follows
-rest_is_all : (script : Script) (n : ℕ) (old ready now : State) → IsAtRest now.base now.sem_flags → ready ≡ paced script n old → now ≡ (done_at script n ready).state → worked script n old ≡ record { state = now; lines = (done_at script n ready).lines ++ [] }
+rest_is_all : (script : Script) (n : ℕ) (old ready now : State) → IsAtRest now.base now.objects → ready ≡ paced script n old → now ≡ (done_at script n ready).state → worked script n old ≡ record { state = now; lines = (done_at script n ready).lines ++ [] }
 unfolding worked
 rest_is_all script n old ready now rest at_ready at_now =
     ap (λ (st : State). behind (done_at script n st).lines (followed script n (done_at script n st).state)) (sym at_ready)
     ∙ ap (λ (st : State). behind (done_at script n ready).lines (followed script n st)) (sym at_now)
     ∙ ap (λ (event : Event). behind (done_at script n ready).lines event) (followed_none script n now rest)
 
-pub rest_state : (script : Script) (n : ℕ) (old ready now : State) → IsAtRest now.base now.sem_flags → ready ≡ paced script n old → now ≡ (done_at script n ready).state → now ≡ (worked script n old).state
+pub rest_state : (script : Script) (n : ℕ) (old ready now : State) → IsAtRest now.base now.objects → ready ≡ paced script n old → now ≡ (done_at script n ready).state → now ≡ (worked script n old).state
 rest_state script n old ready now rest at_ready at_now = sym (ap (λ (event : Event). event.state) (rest_is_all script n old ready now rest at_ready at_now))
 
-pub rest_lines : (script : Script) (n : ℕ) (old ready now : State) (before after : List Line) → IsAtRest now.base now.sem_flags → ready ≡ paced script n old → now ≡ (done_at script n ready).state → after ≡ before ++ (done_at script n ready).lines → after ≡ before ++ (worked script n old).lines
+pub rest_lines : (script : Script) (n : ℕ) (old ready now : State) (before after : List Line) → IsAtRest now.base now.objects → ready ≡ paced script n old → now ≡ (done_at script n ready).state → after ≡ before ++ (done_at script n ready).lines → after ≡ before ++ (worked script n old).lines
 rest_lines script n old ready now before after rest at_ready at_now written =
     written
     ∙ ap (λ (lines : List Line). before ++ lines) (sym (append-nil (done_at script n ready).lines) ∙ sym (ap (λ (event : Event). event.lines) (rest_is_all script n old ready now rest at_ready at_now)))
 
 -- all that follows an event leaves the state at rest
-pub comes_to_rest : (script : Script) (n : ℕ) (old settled released now : State) → length old.base.tasks ≡ 256 → settled ≡ settle old → released ≡ (with_releases script n settled).state → now ≡ (dispatched n released).state → IsAtRest now.base now.sem_flags
+pub comes_to_rest : (script : Script) (n : ℕ) (old settled released now : State) → length old.base.tasks ≡ 256 → settled ≡ settle old → released ≡ (with_releases script n settled).state → now ≡ (dispatched n released).state → IsAtRest now.base now.objects
 unfolding followed
 comes_to_rest script n old settled released now slots at_settled at_released at_now =
     let all : now ≡ (followed script n old).state = at_now ∙ ap (λ (st : State). (dispatched n st).state) (at_released ∙ ap (λ (st : State). (with_releases script n st).state) at_settled) in
-    subst (λ (st : State). IsAtRest st.base st.sem_flags) (sym all) (followed_rest script n old (omega (arith, slots)))
+    subst (λ (st : State). IsAtRest st.base st.objects) (sym all) (followed_rest script n old (omega (arith, slots)))

@@ -7,6 +7,7 @@ use Rattle.tk_types.specs.declared.task.Event.{Event}
 use Rattle.kernel_model.specs.Base.{Base, release, take_due}
 use Rattle.kernel_model.specs.Priority.{current_of}
 use Rattle.kernel_model.specs.SemFlags.{SemFlags, SemFlagParts, serve_sem_flag}
+use Rattle.kernel_model.specs.Objects.{Objects, Parts, serve_object, with_sem_flags}
 use Rattle.kernel_model.specs.State.{State}
 use Rattle.kernel_model.specs.Settle.{refreshed, serve_first, served_within, settle}
 use Rattle.kernel_model.specs.Ticks.{fallen}
@@ -17,33 +18,37 @@ use Rattle.sem_flag.specs.Parts.{parts_of}
 
 -- ---- one serving
 
-some_same : (served : Option SemFlagParts) (st : State) → is_some (option_map (with_parts st) served) ≡ is_some served
+some_same : (served : Option SemFlagParts) (st : State) → is_some (option_map (with_parts st) (option_map (with_sem_flags st.objects) served)) ≡ is_some served
 some_same None st = refl
 some_same (Some parts) st = refl
 
--- a serving of the parts is one of the state
-pub first_is : (st : State) → is_some (serve_first st) ≡ is_some (serve_sem_flag st.base st.sem_flags)
-first_is st = some_same (serve_sem_flag st.base st.sem_flags) st
+-- a serving of semaphores and flags is one of the state
+pub first_is : (st : State) → is_some (serve_first st) ≡ is_some (serve_sem_flag st.base st.objects.sem_flags)
+unfolding serve_object
+first_is st = some_same (serve_sem_flag st.base st.objects.sem_flags) st
 
-parts_left : (served : Option SemFlagParts) (st : State) (b : Base) (s : SemFlags) → parts_of b s ≡ unwrap_or served (parts_of st.base st.sem_flags) → with_parts st (parts_of b s) ≡ unwrap_or (option_map (with_parts st) served) st
-parts_left None st b s left = ap (with_parts st) left
-parts_left (Some parts) st b s left = ap (with_parts st) left
+parts_left : (served : Option SemFlagParts) (st : State) (b : Base) (s : SemFlags) → parts_of b s ≡ unwrap_or served (parts_of st.base st.objects.sem_flags) →
+    with_parts st (with_sem_flags st.objects (parts_of b s)) ≡ unwrap_or (option_map (with_parts st) (option_map (with_sem_flags st.objects) served)) st
+parts_left None st b s left = ap (λ parts. with_parts st (with_sem_flags st.objects parts)) left
+parts_left (Some parts) st b s left = ap (λ parts. with_parts st (with_sem_flags st.objects parts)) left
 
 -- and leaves the rest
-pub first_left : (st : State) (b : Base) (s : SemFlags) → parts_of b s ≡ unwrap_or (serve_sem_flag st.base st.sem_flags) (parts_of st.base st.sem_flags) → record st { base = b; sem_flags = s } ≡ unwrap_or (serve_first st) st
-first_left st b s left = parts_left (serve_sem_flag st.base st.sem_flags) st b s left
+pub first_left : (st : State) (b : Base) (s : SemFlags) → parts_of b s ≡ unwrap_or (serve_sem_flag st.base st.objects.sem_flags) (parts_of st.base st.objects.sem_flags) →
+    record st { base = b; objects = record st.objects { sem_flags = s } } ≡ unwrap_or (serve_first st) st
+unfolding serve_object
+first_left st b s left = parts_left (serve_sem_flag st.base st.objects.sem_flags) st b s left
 
-orderly_of : (st now : State) (served : Option SemFlagParts) → serve_sem_flag st.base st.sem_flags ≡ served → IsOrderly st.base st.sem_flags → now ≡ unwrap_or (option_map (with_parts st) served) st → IsOrderly now.base now.sem_flags
-orderly_of st now None is all same = subst (λ (st : State). IsOrderly st.base st.sem_flags) (sym same) all
-orderly_of st now (Some parts) is all same = subst (λ (st : State). IsOrderly st.base st.sem_flags) (sym same) (serving_orderly st.base st.sem_flags parts (serving st.base st.sem_flags parts is) all)
+orderly_of : (st now : State) (served : Option Parts) → serve_object st.base st.objects ≡ served → IsOrderly st.base st.objects → now ≡ unwrap_or (option_map (with_parts st) served) st → IsOrderly now.base now.objects
+orderly_of st now None is all same = subst (λ (st : State). IsOrderly st.base st.objects) (sym same) all
+orderly_of st now (Some parts) is all same = subst (λ (st : State). IsOrderly st.base st.objects) (sym same) (serving_orderly st.base st.objects parts (serving st.base st.objects parts is) all)
 
 -- each task that waits still stands in its order
-pub served_orderly : (st now : State) → IsOrderly st.base st.sem_flags → now ≡ unwrap_or (serve_first st) st → IsOrderly now.base now.sem_flags
-served_orderly st now all same = orderly_of st now (serve_sem_flag st.base st.sem_flags) refl all same
+pub served_orderly : (st now : State) → IsOrderly st.base st.objects → now ≡ unwrap_or (serve_first st) st → IsOrderly now.base now.objects
+served_orderly st now all same = orderly_of st now (serve_object st.base st.objects) refl all same
 
-pub refreshed_orderly : (st now : State) → IsOrderly st.base st.sem_flags → now ≡ refreshed st → IsOrderly now.base now.sem_flags
+pub refreshed_orderly : (st now : State) → IsOrderly st.base st.objects → now ≡ refreshed st → IsOrderly now.base now.objects
 refreshed_orderly st now all same =
-    subst (λ (st : State). IsOrderly st.base st.sem_flags) (sym same) (resettle_keeps IsOrderly (λ b s t changed has. current_orderly b s t (current_of b t) has) st.base st.sem_flags all)
+    subst (λ (st : State). IsOrderly st.base st.objects) (sym same) (resettle_keeps IsOrderly (λ b o t changed has. current_orderly b o t (current_of b t) has) st.base st.objects all)
 
 -- ---- one after another
 
@@ -83,16 +88,16 @@ settle_is st = refl
 -- ---- ticks
 
 -- each task that waits still stands in its order when another's wait ends
-pub release_leaves_order : (view st : State) (base : Base) (t : ℕ) (answer : Answer) → view ≡ st → base ≡ release view.base t answer → IsOrderly st.base st.sem_flags → IsOrderly base view.sem_flags
+pub release_leaves_order : (view st : State) (base : Base) (t : ℕ) (answer : Answer) → view ≡ st → base ≡ release view.base t answer → IsOrderly st.base st.objects → IsOrderly base view.objects
 release_leaves_order view st base t answer same released all =
-    subst (λ (b : Base). IsOrderly b view.sem_flags) (sym released) (release_orderly view.base view.sem_flags t answer (subst (λ (st : State). IsOrderly st.base st.sem_flags) (sym same) all))
+    subst (λ (b : Base). IsOrderly b view.objects) (sym released) (release_orderly view.base view.objects t answer (subst (λ (st : State). IsOrderly st.base st.objects) (sym same) all))
 
-taken_orderly : (b : Base) (s : SemFlags) → IsOrderly b s → IsOrderly (take_due b) s
-taken_orderly b s all = record { each = all.each }
+taken_orderly : (b : Base) (o : Objects) → IsOrderly b o → IsOrderly (take_due b) o
+taken_orderly b o all = record { each = all.each }
 
 -- and when what is due has been done
-pub due_leaves_order : (view st now : State) (base : Base) (what : Event) → view ≡ st → base ≡ take_due view.base → now ≡ fallen (record view { base = base }) what → IsOrderly st.base st.sem_flags → IsOrderly now.base now.sem_flags
+pub due_leaves_order : (view st now : State) (base : Base) (what : Event) → view ≡ st → base ≡ take_due view.base → now ≡ fallen (record view { base = base }) what → IsOrderly st.base st.objects → IsOrderly now.base now.objects
 due_leaves_order view st now base what same taken done all =
-    let here : IsOrderly view.base view.sem_flags = subst (λ (st : State). IsOrderly st.base st.sem_flags) (sym same) all in
-    let left : IsOrderly base view.sem_flags = subst (λ (b : Base). IsOrderly b view.sem_flags) (sym taken) (taken_orderly view.base view.sem_flags here) in
-    subst (λ (st : State). IsOrderly st.base st.sem_flags) (sym done) (fallen_orderly (record view { base = base }) what left)
+    let here : IsOrderly view.base view.objects = subst (λ (st : State). IsOrderly st.base st.objects) (sym same) all in
+    let left : IsOrderly base view.objects = subst (λ (b : Base). IsOrderly b view.objects) (sym taken) (taken_orderly view.base view.objects here) in
+    subst (λ (st : State). IsOrderly st.base st.objects) (sym done) (fallen_orderly (record view { base = base }) what left)

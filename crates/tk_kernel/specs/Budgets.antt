@@ -15,5 +15,5 @@ pub record IsGoing (script : Script) (budget : ℕ) (state : State) (over : Opti
   pub limit : budget ≤ 1000000
   pub left : failed ≡ false → over ≡ None → state.steps < budget
   pub counts : failed ≡ false → over ≡ None → IsCounted state
-  pub orderly : failed ≡ false → over ≡ None → IsOrderly state.base state.sem_flags
-  pub rest : failed ≡ false → over ≡ None → IsAtRest state.base state.sem_flags
+  pub orderly : failed ≡ false → over ≡ None → IsOrderly state.base state.objects
+  pub rest : failed ≡ false → over ≡ None → IsAtRest state.base state.objects

@@ -39,7 +39,7 @@ impl Kernel {
     fn family_call(&mut self, task: u8, call: &Call) -> Outcome
         requires few { self.old.base.made < 2 ^ 63 }
         requires early { self.old.base.time < 2 ^ 63 }
-        requires orderly { IsOrderly self.old.base self.old.sem_flags }
+        requires orderly { IsOrderly self.old.base self.old.objects }
         ensures { family_call self.old task call.now ≡ record { state = self.new; outcome = result } }
     {
         match call {
@@ -124,7 +124,7 @@ impl Kernel {
     ) -> Result<(), AllocError>
         requires few { self.old.base.made < 2 ^ 63 }
         requires early { self.old.base.time < 2 ^ 63 }
-        requires orderly { IsOrderly self.old.base self.old.sem_flags }
+        requires orderly { IsOrderly self.old.base self.old.objects }
         ensures state { OnOk result (self.new ≡ (called step self.old task call.now).state) }
         ensures lines { OnOk result (lines.new.items ≡ lines.old.items ++ (called step self.old task call.now).lines) }
     {

@@ -32,7 +32,7 @@ impl Model for Kernel {
 
     ghost Value = { State };
 
-    ghost view = { λ k. record { base = k.base; sem_flags = k.sem_flags; bodies = k.bodies.items; frames = k.frames.items; memory = k.memory; ticks = k.ticks; halted = k.halted; steps = k.steps } };
+    ghost view = { λ k. record { base = k.base; objects = record { sem_flags = k.sem_flags }; bodies = k.bodies.items; frames = k.frames.items; memory = k.memory; ticks = k.ticks; halted = k.halted; steps = k.steps } };
 
     ghost invariant = { λ k. AreTables k.bodies.items k.frames.items };
 }

@@ -61,13 +61,13 @@ fn advance(
     requires limit { budget ≤ 1000000 }
     requires left { kernel.old.steps < budget }
     requires counts { IsCounted kernel.old }
-    requires orderly { IsOrderly kernel.old.base kernel.old.sem_flags }
-    requires rest { IsAtRest kernel.old.base kernel.old.sem_flags }
+    requires orderly { IsOrderly kernel.old.base kernel.old.objects }
+    requires rest { IsAtRest kernel.old.base kernel.old.objects }
     ensures state { OnOk result (kernel.new ≡ (step script.now budget kernel.old).state) }
     ensures ending { IfOk result (λ over. over ≡ (step script.now budget kernel.old).over) }
     ensures lines { OnOk result (lines.new.items ≡ lines.old.items ++ (step script.now budget kernel.old).lines) }
-    ensures orderly { OnOk result (IsOrderly kernel.new.base kernel.new.sem_flags) }
-    ensures rest { OnOk result (IsAtRest kernel.new.base kernel.new.sem_flags) }
+    ensures orderly { OnOk result (IsOrderly kernel.new.base kernel.new.objects) }
+    ensures rest { OnOk result (IsAtRest kernel.new.base kernel.new.objects) }
 {
     kernel.known_of_tasks();
     if kernel.is_quiet() {

@@ -42,11 +42,11 @@ impl Kernel {
     ) -> Result<bool, AllocError>
         requires few { self.old.base.made < 2 ^ 63 }
         requires early { self.old.base.time < 2 ^ 63 }
-        requires orderly { IsOrderly self.old.base self.old.sem_flags }
-        requires rest { IsAtRest self.old.base self.old.sem_flags }
+        requires orderly { IsOrderly self.old.base self.old.objects }
+        requires rest { IsAtRest self.old.base self.old.objects }
         ensures state { OnOk result (self.new ≡ (acted step self.old task act.now).state) }
         ensures lines { OnOk result (lines.new.items ≡ lines.old.items ++ (acted step self.old task act.now).lines) }
-        ensures rest { IfOk result (λ touched. touched ≡ false → IsAtRest self.new.base self.new.sem_flags) }
+        ensures rest { IfOk result (λ touched. touched ≡ false → IsAtRest self.new.base self.new.objects) }
     {
         match act {
             Act::Call(call) => {
@@ -82,11 +82,11 @@ impl Kernel {
         requires runnable { IsRunnable script.now }
         requires few { self.old.base.made < 2 ^ 63 }
         requires early { self.old.base.time < 2 ^ 63 }
-        requires orderly { IsOrderly self.old.base self.old.sem_flags }
-        requires rest { IsAtRest self.old.base self.old.sem_flags }
+        requires orderly { IsOrderly self.old.base self.old.objects }
+        requires rest { IsAtRest self.old.base self.old.objects }
         ensures state { OnOk result (self.new ≡ (ran script.now step self.old task).state) }
         ensures lines { OnOk result (lines.new.items ≡ lines.old.items ++ (ran script.now step self.old task).lines) }
-        ensures rest { IfOk result (λ touched. touched ≡ false → IsAtRest self.new.base self.new.sem_flags) }
+        ensures rest { IfOk result (λ touched. touched ≡ false → IsAtRest self.new.base self.new.objects) }
     {
         let mut frame = self.frame(task);
         let act = fetch(&mut frame, &mut self.memory, script);

@@ -84,7 +84,7 @@ impl Kernel {
     /// The first object by kind and ID that can serve a waiter serves one. False, with nothing changed, comes exactly where
     /// none can.
     fn serve_first(&mut self) -> bool
-        requires orderly { IsOrderly self.old.base self.old.sem_flags }
+        requires orderly { IsOrderly self.old.base self.old.objects }
         ensures served { result ≡ is_some (serve_first self.old) }
         ensures left { self.new ≡ unwrap_or (serve_first self.old) self.old }
     {
@@ -94,7 +94,7 @@ impl Kernel {
     /// Settling: changed priorities are taken over, and waiters are served one after another until none can be.
     #[tactic(auto, unfolding(kernel_model::specs::Settle::settle))]
     pub(crate) fn settle(&mut self)
-        requires orderly { IsOrderly self.old.base self.old.sem_flags }
+        requires orderly { IsOrderly self.old.base self.old.objects }
         ensures { self.new ≡ settle self.old }
     {
         self.refresh();
@@ -165,10 +165,10 @@ impl Kernel {
         step: u32,
         lines: &mut Vec<Line>,
     ) -> Result<(), AllocError>
-        requires orderly { IsOrderly self.old.base self.old.sem_flags }
+        requires orderly { IsOrderly self.old.base self.old.objects }
         ensures state { OnOk result (self.new ≡ (followed script.now step self.old).state) }
         ensures lines { OnOk result (lines.new.items ≡ lines.old.items ++ (followed script.now step self.old).lines) }
-        ensures rest { OnOk result (IsAtRest self.new.base self.new.sem_flags) }
+        ensures rest { OnOk result (IsAtRest self.new.base self.new.objects) }
     {
         self.known_of_tasks();
         self.settle();

@@ -73,7 +73,7 @@ impl Kernel {
         requires { self.old.ticks < 2 ^ 31 }
         ensures paced { self.new ≡ paced script.now step self.old }
         ensures base { self.new.base ≡ self.old.base }
-        ensures objects { self.new.sem_flags ≡ self.old.sem_flags }
+        ensures objects { self.new.objects ≡ self.old.objects }
     {
         if is_paced(script.pace, step) {
             self.ticks += 1;
@@ -92,11 +92,11 @@ impl Kernel {
         requires runnable { IsRunnable script.now }
         requires few { self.old.base.made < 2 ^ 63 }
         requires early { self.old.base.time < 2 ^ 63 }
-        requires orderly { IsOrderly self.old.base self.old.sem_flags }
-        requires rest { IsAtRest self.old.base self.old.sem_flags }
+        requires orderly { IsOrderly self.old.base self.old.objects }
+        requires rest { IsAtRest self.old.base self.old.objects }
         ensures state { OnOk result (self.new ≡ (done_at script.now step self.old).state) }
         ensures lines { OnOk result (lines.new.items ≡ lines.old.items ++ (done_at script.now step self.old).lines) }
-        ensures rest { IfOk result (λ touched. touched ≡ false → IsAtRest self.new.base self.new.sem_flags) }
+        ensures rest { IfOk result (λ touched. touched ≡ false → IsAtRest self.new.base self.new.objects) }
     {
         if self.has_tick() {
             self.ticks -= 1;
@@ -122,12 +122,12 @@ impl Kernel {
         requires runnable { IsRunnable script.now }
         requires few { self.old.base.made < 2 ^ 63 }
         requires early { self.old.base.time < 2 ^ 63 }
-        requires orderly { IsOrderly self.old.base self.old.sem_flags }
-        requires rest { IsAtRest self.old.base self.old.sem_flags }
+        requires orderly { IsOrderly self.old.base self.old.objects }
+        requires rest { IsAtRest self.old.base self.old.objects }
         requires ticks { self.old.ticks < 2 ^ 31 }
         ensures state { OnOk result (self.new ≡ (worked script.now step self.old).state) }
         ensures lines { OnOk result (lines.new.items ≡ lines.old.items ++ (worked script.now step self.old).lines) }
-        ensures rest { OnOk result (IsAtRest self.new.base self.new.sem_flags) }
+        ensures rest { OnOk result (IsAtRest self.new.base self.new.objects) }
     {
         self.known_of_tasks();
         self.set_pace(script, step);

@@ -27,7 +27,7 @@ impl Kernel {
     /// An event that fell due. Settling follows the end of a wait.
     #[tactic(auto, unfolding(kernel_model::specs::Ticks::fallen))]
     fn fall(&mut self, what: Event)
-        requires orderly { IsOrderly self.old.base self.old.sem_flags }
+        requires orderly { IsOrderly self.old.base self.old.objects }
         ensures { self.new ≡ fallen self.old what }
     {
         match what {
@@ -43,7 +43,7 @@ impl Kernel {
 
     /// The events that are due, at most so many.
     fn end_due(&mut self, most: usize)
-        requires orderly { IsOrderly self.old.base self.old.sem_flags }
+        requires orderly { IsOrderly self.old.base self.old.objects }
         ensures { self.new ≡ due_done most self.old }
     {
         'due: for _done in 0..most {
@@ -58,7 +58,7 @@ impl Kernel {
     #[tactic(auto, unfolding(kernel_model::specs::Ticks::tick))]
     pub(crate) fn tick(&mut self, step: u32, lines: &mut Vec<Line>) -> Result<(), AllocError>
         requires early { self.old.base.time < 2 ^ 63 }
-        requires orderly { IsOrderly self.old.base self.old.sem_flags }
+        requires orderly { IsOrderly self.old.base self.old.objects }
         ensures state { OnOk result (self.new ≡ (tick step self.old).state) }
         ensures lines { OnOk result (lines.new.items ≡ lines.old.items ++ (tick step self.old).lines) }
     {

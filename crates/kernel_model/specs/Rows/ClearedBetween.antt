@@ -17,6 +17,7 @@ use Rattle.kernel_model.specs.Orders.{free_from}
 use Rattle.kernel_model.specs.Base.{chosen, free_task}
 use Rattle.kernel_model.specs.Priority.{resettle}
 use Rattle.kernel_model.specs.TaskCalls.{create_task, delete_task, start_task, exit_task, terminate_task, change_priority, rotate_ready, get_task, refer_task, sleep, delay, wake_up, cancel_wakeups, release_wait, suspend_task, resume_task, task_call}
+use Rattle.kernel_model.specs.Objects.{serve_object}
 use Rattle.kernel_model.specs.SemFlags.{serve_sem_flag, first_served, serve_sem, serve_flag}
 use Rattle.kernel_model.specs.SemFlagCalls.{create_sem, signal_sem, wait_sem, refer_sem, delete_sem, create_flag, set_flag, clear_flag, wait_flag, refer_flag, delete_flag, end_first, sem_flag_call}
 use Rattle.kernel_model.specs.Statements.{fetch, give, call_before}
@@ -100,5 +101,5 @@ lines =
 
 -- the texts of the trace, and the end of the run
 row : (text_of_lines (trace script modes.Free 100000).lines ≡ lines) × ((trace script modes.Free 100000).end ≡ ends.Idle)
-unfolding script lines trace start state_start steps_from step worked done_at ran acted called family_call answered tick due_done fallen counted followed settle served_within serve_sem_flag first_served serve_sem serve_flag with_releases follow_each follow_release dispatched resettle fetch give call_before task_call create_task delete_task start_task exit_task terminate_task change_priority rotate_ready get_task refer_task sleep delay wake_up cancel_wakeups release_wait suspend_task resume_task sem_flag_call create_sem signal_sem wait_sem refer_sem delete_sem create_flag set_flag clear_flag wait_flag refer_flag delete_flag end_first chosen free_task free_from made name_of task_call_name sem_flag_call_name attributes_of flag_mode_of code_of coded error_text value_text words_of text_of_line text_of_lines text_of digits
+unfolding script lines trace start state_start steps_from step worked done_at ran acted called family_call answered tick due_done fallen counted followed settle served_within serve_object serve_sem_flag first_served serve_sem serve_flag with_releases follow_each follow_release dispatched resettle fetch give call_before task_call create_task delete_task start_task exit_task terminate_task change_priority rotate_ready get_task refer_task sleep delay wake_up cancel_wakeups release_wait suspend_task resume_task sem_flag_call create_sem signal_sem wait_sem refer_sem delete_sem create_flag set_flag clear_flag wait_flag refer_flag delete_flag end_first chosen free_task free_from made name_of task_call_name sem_flag_call_name attributes_of flag_mode_of code_of coded error_text value_text words_of text_of_line text_of_lines text_of digits
 row = (refl, refl)

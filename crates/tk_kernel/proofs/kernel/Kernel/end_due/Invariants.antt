@@ -7,5 +7,5 @@ use Rattle.tk_kernel.proofs.kernel.Kernel.end_due.Given as goal
 abbrev pub invariant-due : goal.invariant-due
 invariant-due l = record {
   all : due_done (l.most - l._done) l.self ≡ due_done l.fn.most l.fn.self;
-  orderly : IsOrderly l.self.base l.self.sem_flags;
+  orderly : IsOrderly l.self.base l.self.objects;
 }

@@ -7,5 +7,5 @@ use Rattle.tk_kernel.proofs.kernel.Kernel.settle.Given as goal
 abbrev pub invariant-servings : goal.invariant-servings
 invariant-servings l = record {
   all : served_within (256 - l._served) l.self ≡ served_within 256 (refreshed l.fn.self);
-  orderly : IsOrderly l.self.base l.self.sem_flags;
+  orderly : IsOrderly l.self.base l.self.objects;
 }
