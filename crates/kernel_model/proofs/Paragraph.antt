@@ -1,6 +1,6 @@
 -- A waiting call does what its paragraph says: on a settled state nobody but the caller can be served once it has joined,
 -- and nobody at all once it was, so that settling comes to the one serving of the trial, or to none.
-use Rattle.std.proofs.Common.{◌≡◌, ℕ, suc, zero, ◌-◌, ◌<◌, ◌≤◌, Bool, true, false, Option, Some, None, length, refl, cond, ◌∙◌, ap, sym, ℤ, pos, arith}
+use Rattle.std.proofs.Common.{◌≡◌, ℕ, ◌-◌, ◌<◌, ◌≤◌, Bool, true, false, Option, Some, None, length, refl, cond, ◌∙◌, ap, sym, ℤ, pos, arith}
 use Rattle.std.specs.Prelude.{nat_le}
 use Rattle.std.specs.Bool.{◌==◌}
 use Rattle.std.specs.Option.{option_map, option_map_or}
@@ -16,7 +16,7 @@ use Rattle.kernel_model.specs.Base.{Base, current, make_wait, release}
 use Rattle.kernel_model.specs.Priority.{current_of}
 use Rattle.kernel_model.specs.SemFlags.{SemFlags, SemFlagParts, sem_object, flag_object, sem_at, flag_at, count_of, wish_of, no_wish, has_bits, cleared_by, serve_sem, serve_sem_at, serve_sem_of, serve_flag, serve_flag_at, serve_flag_of, serve_sem_flag, flag_answer, taken_from_sem, cleared_flag}
 use Rattle.kernel_model.specs.SemFlagCalls.{SemFlagDone, serves_at_once, waited_for_sem, waited_for_flag}
-use Rattle.kernel_model.specs.Objects.{Objects, serve_object, with_sem_flags}
+use Rattle.kernel_model.specs.Objects.{serve_object, with_sem_flags}
 use Rattle.kernel_model.specs.Settle.{settle}
 use Rattle.kernel_model.specs.State.{State}
 use Rattle.kernel_model.specs.Trial.{MayWait, asked_count, asked_wish, ended_with, sem_trial, sem_trial_of, flag_trial, flag_trial_of}

@@ -1,21 +1,15 @@
 -- From a state at rest nothing follows, and what follows an event comes to rest.
-use Rattle.std.proofs.Common.{◌≡◌, ℕ, suc, zero, ◌+◌, ◌≤◌, Bool, true, false, List, [], ◌∷◌, ◌++◌, Option, Some, None, length, drop, refl, cond, ◌∙◌, ap, sym, arith}
-use Rattle.std.specs.Prelude.{fold}
-use Rattle.std.specs.Bool.{◌==◌}
-use Rattle.std.specs.Option.{option_map}
-use Rattle.std.proofs.lemmas.Bool.Decides.{nat_tests}
+use Rattle.std.proofs.Common.{◌≡◌, ℕ, ◌≤◌, Bool, true, false, List, [], ◌∷◌, ◌++◌, length, refl, ◌∙◌, ap, sym}
 use Rattle.tk_types.specs.declared.script.Script.{Script}
 use Rattle.tk_types.specs.declared.task.Release.{Release}
-use Rattle.kernel_model.specs.Base.{Base, chosen, current, set_current}
-use Rattle.kernel_model.specs.Priority.{current_of, refresh, resettle, taken_from}
+use Rattle.kernel_model.specs.Base.{chosen, current}
+use Rattle.kernel_model.specs.Priority.{current_of}
 use Rattle.kernel_model.specs.Rest.{IsAtRest}
-use Rattle.kernel_model.specs.Objects.{serve_object}
-use Rattle.kernel_model.specs.Settle.{Event, refreshed, settle, served_within, follow_release, follow_each, with_releases, turned, dispatched, followed}
+use Rattle.kernel_model.specs.Settle.{Event, settle, follow_release, follow_each, with_releases, turned, dispatched, followed}
 use Rattle.kernel_model.specs.State.{State, state_start}
 use Rattle.kernel_model.specs.Trace.{start}
 use Rattle.kernel_model.specs.Views.{is_current}
 use Rattle.kernel_model.proofs.Reached.{start_unserved, start_up_to_date, unserved_after}
-use Rattle.kernel_model.proofs.Served.{next_served, with_parts}
 use Rattle.kernel_model.proofs.Settled.{settle_up_to_date, settled_none}
 use Rattle.kernel_model.proofs.StepKeeps.{settled_keeps, start_keeps}
 use Rattle.kernel_model.proofs.Tables.{itself}
