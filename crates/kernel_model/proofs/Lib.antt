@@ -29,6 +29,7 @@ pub mod Trial
 pub mod Served
 pub mod FamilyPlaces
 pub mod Settled
+pub mod Priorities
 pub mod Reached
 pub mod Rest
 pub mod Unserved

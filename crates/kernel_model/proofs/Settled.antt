@@ -167,11 +167,16 @@ unfolding resettle
 resettled_up_to_date b t one = let ids : List ℕ = taken_from 1 (drop 1 b.tasks) in each_up_to_date t ids b (free_up_to_date b t ids (in_table t b.tasks one))
 
 -- a row that keeps both priorities
-row_up_to_date : (b : Base) (t u : ℕ) (k : Task) (o : Option Task) → task_at b t ≡ Some k → current_in o ≡ k.current → base_in o ≡ k.base → IsUpToDate u b → FitsBase (entry (slice_set b.tasks t o) u)
+pub row_up_to_date : (b : Base) (t u : ℕ) (k : Task) (o : Option Task) → task_at b t ≡ Some k → current_in o ≡ k.current → base_in o ≡ k.base → IsUpToDate u b → FitsBase (entry (slice_set b.tasks t o) u)
 row_up_to_date b t u k o at now_current now_base is =
     entry_each (λ v now. v ≡ u → FitsBase now) b.tasks t o
     (λ same. entry_same FitsBase b.tasks t o (now_current ∙ ap current_in (sym at) ∙ subst (λ (w : ℕ). FitsBase (task_at b w)) (sym same) is ∙ ap base_in at ∙ sym now_base) refl)
     (λ v apart same. subst (λ (w : ℕ). FitsBase (task_at b w)) (sym same) is) u refl
+
+-- a slot that fits
+pub slot_up_to_date : (b : Base) (t u : ℕ) (o : Option Task) → FitsBase o → IsUpToDate u b → FitsBase (entry (slice_set b.tasks t o) u)
+slot_up_to_date b t u o fits is =
+    entry_each (λ v now. v ≡ u → FitsBase now) b.tasks t o (λ same. entry_same FitsBase b.tasks t o fits refl) (λ v apart same. subst (λ (w : ℕ). FitsBase (task_at b w)) (sym same) is) u refl
 
 -- the end of a wait changes no priority
 pub released_up_to_date : (b : Base) (t u : ℕ) (answer : Answer) → IsUpToDate u b → IsUpToDate u (release b t answer)
@@ -188,7 +193,8 @@ pub waiting_up_to_date : (b : Base) (t u object : ℕ) (order : Order) (timeout 
 waiting_up_to_date b t u object order (pos n) is = entry_cases (IsUpToDate u) (task_at b t) b _ is (λ k at. row_up_to_date b t u k (Some (record k { phase = Waiting object; queue = order })) at refl refl is)
 waiting_up_to_date b t u object order (negsuc n) is = entry_cases (IsUpToDate u) (task_at b t) b _ is (λ k at. row_up_to_date b t u k (Some (record k { phase = Waiting object; queue = order })) at refl refl is)
 
-serving_up_to_date : (t : ℕ) (b : Base) (o : Objects) (parts : Parts) → IsServing b o parts → IsUpToDate t b → IsUpToDate t parts.base
+-- nor does a serving
+pub serving_up_to_date : (t : ℕ) (b : Base) (o : Objects) (parts : Parts) → IsServing b o parts → IsUpToDate t b → IsUpToDate t parts.base
 serving_up_to_date t b o parts served is = subst (IsUpToDate t) (sym served.ends) (released_up_to_date b served.task t served.answer is)
 
 -- once a state has settled, each task's current priority is that of its definition

@@ -1,5 +1,5 @@
 -- A call of a task, and what follows from it for the bodies of the script.
-use Rattle.std.specs.Prelude.{ℕ, if◌then◌else◌, ℤ, pos, List, [], ◌∷◌, slice_set, slice_index}
+use Rattle.std.specs.Prelude.{ℕ, Bool, true, false, if◌then◌else◌, ℤ, pos, List, [], ◌∷◌, slice_set, slice_index}
 use Rattle.std.specs.Ordering.{int_eq}
 use Rattle.tk_types.specs.declared.answer.Outcome.{Outcome}
 use Rattle.tk_types.specs.declared.answer.Outcome.TheVariants.{Returned, Blocked, Entered}
@@ -8,7 +8,7 @@ use Rattle.tk_types.specs.declared.error_code.Er.TheVariants as er
 use Rattle.tk_types.specs.declared.calls.Call.{Call}
 use Rattle.tk_types.specs.declared.calls.Call.TheVariants as calls
 use Rattle.tk_types.specs.declared.calls.TaskCall.{TaskCall}
-use Rattle.tk_types.specs.declared.calls.TaskCall.TheVariants.{CreTsk, StaTsk, ExdTsk}
+use Rattle.tk_types.specs.declared.calls.TaskCall.TheVariants.{CreTsk, StaTsk, ExdTsk, ChgPri}
 use Rattle.tk_types.specs.declared.call_name.CallName.{CallName}
 use Rattle.tk_types.specs.declared.line.Line.{Line}
 use Rattle.tk_types.specs.declared.line.Line.TheVariants as lines
@@ -39,6 +39,16 @@ family_call st t (calls.Task call) = after_task_call st (task_call st.base (whos
 family_call st t (calls.SemFlag call) = after_sem_flag_call st (sem_flag_call st.base st.objects.sem_flags (whos.Task t) call)
 -- the other families aren't built yet: a script that has one is refused before it runs
 family_call st t _ = record { state = st; outcome = failed er.NoSpt }
+
+-- whether a call on tasks changes a priority: `tk_chg_pri` alone
+abbrev pub is_change : TaskCall → Bool
+is_change (ChgPri task priority) = true
+is_change _ = false
+
+-- the same of a call of any family
+abbrev pub changes_priority : Call → Bool
+changes_priority (calls.Task call) = is_change call
+changes_priority _ = false
 
 -- a created task gets its body; an error is no task
 abbrev pub with_body : State → ℤ → ℕ → State

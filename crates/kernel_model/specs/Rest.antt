@@ -6,6 +6,10 @@ use Rattle.kernel_model.specs.Priority.{current_of}
 use Rattle.kernel_model.specs.Objects.{Objects, serve_object}
 use Rattle.kernel_model.specs.Views.{is_current}
 
+-- each task's current priority is that of its definition
+pub record AreUpToDate (b : Base) : Type 0 where
+  pub each : (t : ℕ) → 1 ≤ t → current b t ≡ current_of b t
+
 pub record IsAtRest (b : Base) (o : Objects) : Type 0 where
   pub unserved : serve_object b o ≡ None
   pub up_to_date : (t : ℕ) → 1 ≤ t → current b t ≡ current_of b t

@@ -7,6 +7,7 @@ ghost use Rattle.tk_types.specs.declared.answer.Outcome.TheVariants.{Returned};
 ghost use Rattle.tk_types.specs.declared.answer.Who.{Who};
 ghost use Rattle.tk_types.specs.declared.answer.Who.TheVariants as whos;
 ghost use Rattle.tk_types.specs.declared.calls.SemFlagCall.{SemFlagCall};
+ghost use Rattle.tk_types.specs.declared.calls.Call.{Call};
 ghost use Rattle.tk_types.specs.declared.calls.TaskCall.{TaskCall};
 ghost use Rattle.tk_types.specs.declared.error_code.Er.TheVariants as er;
 ghost use Rattle.tk_types.specs.declared.script.Script.{Script};
@@ -19,6 +20,7 @@ ghost use Rattle.kernel_model.specs.declared.objects.EventFlag.{EventFlag};
 ghost use Rattle.kernel_model.specs.declared.objects.FlagWish.{FlagWish};
 ghost use Rattle.kernel_model.specs.declared.objects.Semaphore.{Semaphore};
 ghost use Rattle.kernel_model.specs.Base.{Base, chosen, current, dispatch, is_ready, is_waiting, is_waiting_phase, make_ready, make_wait, queue, ready_list, ready_of, release, resume, suspensions_of, task_at, waits_for};
+ghost use Rattle.kernel_model.specs.Calls.{called, changes_priority};
 ghost use Rattle.kernel_model.specs.Checks.{failed};
 ghost use Rattle.kernel_model.specs.Events.{due_event, insert_event, limit_of};
 ghost use Rattle.kernel_model.specs.Once.{IsOnce, times};
@@ -148,6 +150,14 @@ pub fn a_call_that_is_refused_changes_nothing()
         is_negative answer.value ≡ true → (task_call b who call).base ≡ b }
     ensures sem_flags { (b : Base) (s : SemFlags) (who : Who) (call : SemFlagCall) (answer : Answer) → (sem_flag_call b s who call).outcome ≡ Returned answer →
         is_negative answer.value ≡ true → ((sem_flag_call b s who call).base ≡ b) × ((sem_flag_call b s who call).table ≡ s) }
+{}
+
+/// Priorities change by `tk_chg_pri` alone: where each task's current priority is that of its definition, it still is after
+/// any other call of a task, so that settling has none to take over.
+pub fn priorities_change_by_one_call()
+    ensures { (n : ℕ) (st : State) (t : ℕ) (call : Call) → changes_priority call ≡ false →
+        ((u : ℕ) → 1 ≤ u → current st.base u ≡ current_of st.base u) →
+        (u : ℕ) → 1 ≤ u → current (called n st t call).state.base u ≡ current_of (called n st t call).state.base u }
 {}
 
 /// A release ends one wait: it leaves every other task's row as it was, the task no longer waits, one task fewer waits

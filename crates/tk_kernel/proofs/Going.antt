@@ -9,12 +9,16 @@ use Rattle.tk_types.specs.declared.run.Frame.{Frame}
 use Rattle.kernel_model.specs.Base.{Base, base_start}
 use Rattle.kernel_model.specs.State.{State, no_frame, state_start}
 use Rattle.kernel_model.specs.Statements.{IsRunnable, memory_size, start_frame}
-use Rattle.kernel_model.specs.Rest.{IsAtRest}
+use Rattle.tk_types.specs.declared.answer.Outcome.{Outcome}
+use Rattle.tk_types.specs.declared.calls.Call.{Call}
+use Rattle.kernel_model.specs.Calls.{CallDone, answered, called, changes_priority, family_call}
+use Rattle.kernel_model.specs.Rest.{AreUpToDate, IsAtRest}
 use Rattle.kernel_model.specs.Settle.{Event, behind, dispatched, followed, settle, with_releases}
 use Rattle.kernel_model.specs.Step.{done_at, paced, step, worked}
 use Rattle.kernel_model.specs.Trace.{start}
 use Rattle.kernel_model.specs.SemFlags.{SemFlags, sem_flags_start}
 use Rattle.kernel_model.specs.Waits.{HavePlaces, IsOrderly}
+use Rattle.kernel_model.proofs.Priorities.{called_up_to_date}
 use Rattle.kernel_model.proofs.Rest.{followed_none, followed_rest, start_rest}
 use Rattle.kernel_model.proofs.StepOrders.{first_orderly, start_orderly, worked_orderly}
 use Rattle.kernel_model.proofs.Counts.{start_counted, start_unstepped, step_counted, step_left}
@@ -97,3 +101,11 @@ unfolding followed
 comes_to_rest script n old settled released now slots at_settled at_released at_now =
     let all : now ≡ (followed script n old).state = at_now ∙ ap (λ (st : State). (dispatched n st).state) (at_released ∙ ap (λ (st : State). (with_releases script n st).state) at_settled) in
     subst (λ (st : State). IsAtRest st.base st.objects) (sym all) (followed_rest script n old (omega (arith, slots)))
+
+-- a call that changes no priority leaves each current one that of its definition
+pub called_current : (n : ℕ) (old made now : State) (t : ℕ) (call : Call) (outcome : Outcome) → IsAtRest old.base old.objects → family_call old t call ≡ record { state = made; outcome = outcome } → now ≡ answered made t call outcome →
+    changes_priority call ≡ false → AreUpToDate now.base
+unfolding called
+called_current n old made now t call outcome rest is_made is_answered other =
+    let all : now ≡ (called n old t call).state = is_answered ∙ sym (ap (λ (done : CallDone). answered done.state t call done.outcome) is_made) in
+    subst (λ (st : State). AreUpToDate st.base) (sym all) (record { each = called_up_to_date n old t call other rest.up_to_date })

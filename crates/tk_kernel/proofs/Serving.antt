@@ -11,8 +11,10 @@ use Rattle.kernel_model.specs.Objects.{Objects, Parts, serve_object, with_sem_fl
 use Rattle.kernel_model.specs.State.{State}
 use Rattle.kernel_model.specs.Settle.{refreshed, serve_first, served_within, settle}
 use Rattle.kernel_model.specs.Ticks.{fallen}
+use Rattle.kernel_model.specs.Rest.{AreUpToDate}
 use Rattle.kernel_model.specs.Waits.{IsOrderly}
 use Rattle.kernel_model.proofs.Served.{next_served, resettle_keeps, serving, with_parts}
+use Rattle.kernel_model.proofs.Settled.{resettled_same, serving_up_to_date}
 use Rattle.kernel_model.proofs.StepOrders.{current_orderly, fallen_orderly, release_orderly, serving_orderly}
 use Rattle.sem_flag.specs.Parts.{parts_of}
 
@@ -101,3 +103,26 @@ due_leaves_order view st now base what same taken done all =
     let here : IsOrderly view.base view.objects = subst (λ (st : State). IsOrderly st.base st.objects) (sym same) all in
     let left : IsOrderly base view.objects = subst (λ (b : Base). IsOrderly b view.objects) (sym taken) (taken_orderly view.base view.objects here) in
     subst (λ (st : State). IsOrderly st.base st.objects) (sym done) (fallen_orderly (record view { base = base }) what left)
+
+-- ---- where each task's current priority is that of its definition
+
+refreshed_none : (st : State) → AreUpToDate st.base → refreshed st ≡ st
+refreshed_none st up = ap (λ (b : Base). record st { base = b }) (resettled_same st.base up.each)
+
+-- serving is all of settling
+pub serving_settles : (st : State) → AreUpToDate st.base → served_within 256 st ≡ settle st
+unfolding settle
+serving_settles st up = ap (served_within 256) (sym (refreshed_none st up))
+
+-- one waiter more is served
+pub served_next : (done : ℕ) (st now all : State) → done < 256 → is_some (serve_first st) ≡ true → now ≡ unwrap_or (serve_first st) st → AreUpToDate now.base → served_within (256 - done) st ≡ all → served_within (256 - (done + 1)) now ≡ all
+served_next done st now all below some same up left = served_more done st now now all below some same (sym (refreshed_none now up)) left
+
+current_after : (st now : State) (served : Option Parts) → serve_object st.base st.objects ≡ served → AreUpToDate st.base → now ≡ unwrap_or (option_map (with_parts st) served) st → AreUpToDate now.base
+current_after st now None is up same = subst (λ (st : State). AreUpToDate st.base) (sym same) up
+current_after st now (Some parts) is up same =
+    subst (λ (st : State). AreUpToDate st.base) (sym same) (record { each = λ t one. serving_up_to_date t st.base st.objects parts (serving st.base st.objects parts is) (up.each t one) })
+
+-- and leaves it so
+pub served_current : (st now : State) → AreUpToDate st.base → now ≡ unwrap_or (serve_first st) st → AreUpToDate now.base
+served_current st now up same = current_after st now (serve_object st.base st.objects) refl up same

@@ -1,7 +1,8 @@
 //! Calls of tasks, and what follows from them for the bodies of the script.
 
-ghost use Rattle.std.specs.Prelude.{◌≡◌, ◌<◌, ◌^◌, ◌++◌, OnOk};
-ghost use Rattle.kernel_model.specs.Calls.{answered, begun, call_lines, called, family_call, noted, with_body, with_start};
+ghost use Rattle.std.specs.Prelude.{◌≡◌, ◌<◌, ◌^◌, ◌++◌, OnOk, false};
+ghost use Rattle.kernel_model.specs.Calls.{answered, begun, call_lines, called, changes_priority, family_call, noted, with_body, with_start};
+ghost use Rattle.kernel_model.specs.Rest.{AreUpToDate, IsAtRest};
 ghost use Rattle.kernel_model.specs.Waits.{IsOrderly};
 
 use crate::kernel::Kernel;
@@ -125,11 +126,14 @@ impl Kernel {
         requires few { self.old.base.made < 2 ^ 63 }
         requires early { self.old.base.time < 2 ^ 63 }
         requires orderly { IsOrderly self.old.base self.old.objects }
+        requires rest { IsAtRest self.old.base self.old.objects }
         ensures state { OnOk result (self.new ≡ (called step self.old task call.now).state) }
         ensures lines { OnOk result (lines.new.items ≡ lines.old.items ++ (called step self.old task call.now).lines) }
+        ensures current { OnOk result (changes_priority call.now ≡ false → AreUpToDate self.new.base) }
     {
         let outcome = self.family_call(task, call);
         self.take_answer(task, call, outcome);
-        push_call_line(lines, step, task, call.name(), outcome)
+        push_call_line(lines, step, task, call.name(), outcome)?;
+        Ok(())
     }
 }

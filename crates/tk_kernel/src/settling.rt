@@ -5,11 +5,13 @@ ghost use Rattle.std.specs.Option.{is_some};
 ghost use Rattle.kernel_model.specs.Base.{task_at};
 ghost use Rattle.tk_types.specs.declared.call_name.CallName.{CallName};
 ghost use Rattle.kernel_model.specs.Priority.{current_of, refresh, resettle};
-ghost use Rattle.kernel_model.specs.Rest.{IsAtRest};
+ghost use Rattle.kernel_model.specs.Rest.{AreUpToDate, IsAtRest};
+ghost use Rattle.tk_kernel.specs.declared.running.Touched.TheVariants.{AllButPriorities};
 ghost use Rattle.kernel_model.specs.Waits.{IsOrderly};
 ghost use Rattle.kernel_model.specs.Settle.{dispatched, follow_release, followed, refreshed, release_line, serve_first, settle, with_releases};
 
 use crate::kernel::Kernel;
+use crate::running::Touched;
 use kernel_base::{Base, Release};
 use std::alloc::AllocError;
 use task_machine::{call_before, give};
@@ -106,6 +108,33 @@ impl Kernel {
         }
     }
 
+    /// The same where each task's current priority is that of its definition: there is none to take over, and no serving
+    /// changes one.
+    fn serve_all(&mut self)
+        requires orderly { IsOrderly self.old.base self.old.objects }
+        requires current { AreUpToDate self.old.base }
+        ensures { self.new ≡ settle self.old }
+    {
+        'servings: for _served in 0..MOST_SERVINGS {
+            if !self.serve_first() {
+                return;
+            }
+        }
+    }
+
+    /// Settling after something was touched.
+    fn settle_after(&mut self, touched: Touched)
+        requires orderly { IsOrderly self.old.base self.old.objects }
+        requires current { touched ≡ AllButPriorities → AreUpToDate self.old.base }
+        ensures { self.new ≡ settle self.old }
+    {
+        if touched == Touched::AllButPriorities {
+            self.serve_all();
+        } else {
+            self.settle();
+        }
+    }
+
     /// A wait that ended has its line, and its answer goes into the registers of its task.
     #[tactic(auto, unfolding(kernel_model::specs::Settle::follow_release))]
     fn follow_release(
@@ -157,21 +186,23 @@ impl Kernel {
         Ok(())
     }
 
-    /// What follows an event: settling, the waits that ended, the dispatch.
+    /// What follows an event, which touched so much: settling, the waits that ended, the dispatch.
     #[tactic(auto, unfolding(kernel_model::specs::Settle::followed))]
     pub(crate) fn follow(
         &mut self,
         script: &Script,
         step: u32,
+        touched: Touched,
         lines: &mut Vec<Line>,
     ) -> Result<(), AllocError>
         requires orderly { IsOrderly self.old.base self.old.objects }
+        requires current { touched ≡ AllButPriorities → AreUpToDate self.old.base }
         ensures state { OnOk result (self.new ≡ (followed script.now step self.old).state) }
         ensures lines { OnOk result (lines.new.items ≡ lines.old.items ++ (followed script.now step self.old).lines) }
         ensures rest { OnOk result (IsAtRest self.new.base self.new.objects) }
     {
         self.known_of_tasks();
-        self.settle();
+        self.settle_after(touched);
         self.follow_releases(script, step, lines)?;
         self.dispatch(step, lines)?;
         Ok(())

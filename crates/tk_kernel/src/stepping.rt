@@ -1,14 +1,16 @@
 //! What is done at a step.
 
-ghost use Rattle.std.specs.Prelude.{◌≡◌, ◌<◌, ◌^◌, ◌++◌, IfOk, OnOk, false};
+ghost use Rattle.std.specs.Prelude.{◌≡◌, ◌<◌, ◌^◌, ◌++◌, IfOk, OnOk};
 ghost use Rattle.std.specs.Bool.{◌==◌};
 ghost use Rattle.kernel_model.specs.Statements.{IsRunnable};
 ghost use Rattle.kernel_model.specs.Step.{counted, done_at, end_after, end_lines, has_tick, is_paced, is_quiet, paced, worked};
 ghost use Rattle.kernel_model.specs.Settle.{Event};
-ghost use Rattle.kernel_model.specs.Rest.{IsAtRest};
+ghost use Rattle.kernel_model.specs.Rest.{AreUpToDate, IsAtRest};
+ghost use Rattle.tk_kernel.specs.declared.running.Touched.TheVariants.{AllButPriorities, Nothing};
 ghost use Rattle.kernel_model.specs.Waits.{IsOrderly};
 
 use crate::kernel::Kernel;
+use crate::running::Touched;
 use std::alloc::AllocError;
 use tk_types::{End, LastLine, Line, Script};
 
@@ -80,15 +82,15 @@ impl Kernel {
         }
     }
 
-    /// What is done at a step: a pending tick, the statement of the current task, or an idle tick. The answer is whether it
-    /// may have touched what the kernel keeps of tasks and objects.
+    /// What is done at a step: a pending tick, the statement of the current task, or an idle tick. The answer is what it
+    /// touched of what the kernel keeps of tasks and objects.
     #[tactic(auto, unfolding(kernel_model::specs::Step::done_at))]
     fn do_step(
         &mut self,
         script: &Script,
         step: u32,
         lines: &mut Vec<Line>,
-    ) -> Result<bool, AllocError>
+    ) -> Result<Touched, AllocError>
         requires runnable { IsRunnable script.now }
         requires few { self.old.base.made < 2 ^ 63 }
         requires early { self.old.base.time < 2 ^ 63 }
@@ -96,17 +98,18 @@ impl Kernel {
         requires rest { IsAtRest self.old.base self.old.objects }
         ensures state { OnOk result (self.new ≡ (done_at script.now step self.old).state) }
         ensures lines { OnOk result (lines.new.items ≡ lines.old.items ++ (done_at script.now step self.old).lines) }
-        ensures rest { IfOk result (λ touched. touched ≡ false → IsAtRest self.new.base self.new.objects) }
+        ensures rest { IfOk result (λ touched. touched ≡ Nothing → IsAtRest self.new.base self.new.objects) }
+        ensures current { IfOk result (λ touched. touched ≡ AllButPriorities → AreUpToDate self.new.base) }
     {
         if self.has_tick() {
             self.ticks -= 1;
             self.tick(step, lines)?;
-            return Ok(true);
+            return Ok(Touched::All);
         }
         let task = self.running();
         if task == 0 {
             self.tick(step, lines)?;
-            return Ok(true);
+            return Ok(Touched::All);
         }
         self.run(script, step, task, lines)
     }
@@ -132,10 +135,10 @@ impl Kernel {
         self.known_of_tasks();
         self.set_pace(script, step);
         let touched = self.do_step(script, step, lines)?;
-        if !touched {
+        if touched == Touched::Nothing {
             return Ok(());
         }
-        self.follow(script, step, lines)
+        self.follow(script, step, touched, lines)
     }
 
     /// Counts a step, and ends the run after `halt` or at its budget.
