@@ -1,10 +1,9 @@
 -- Which calls change priorities: `tk_chg_pri` alone. After every other one each task's current priority is still that of its
 -- definition, so that settling has none to take over.
-use Rattle.std.proofs.Common.{◌≡◌, ℕ, suc, zero, ◌+◌, ◌-◌, Bool, true, false, cond, List, [], ◌∷◌, Option, Some, None, refl, ◌∙◌, sym, subst, ℤ, pos, negsuc}
+use Rattle.std.proofs.Common.{◌≡◌, ℕ, suc, zero, ◌+◌, ◌-◌, Bool, true, false, cond, List, [], ◌∷◌, Option, Some, None, refl, ℤ, pos, negsuc}
 use Rattle.std.specs.Bool.{◌==◌}
 use Rattle.std.specs.Prelude.{length, slice_index, slice_set}
 use Rattle.std.specs.Ordering.{int_eq}
-use Rattle.tk_types.specs.declared.task.Task.{Task}
 use Rattle.tk_types.specs.declared.task.Order.{Order}
 use Rattle.tk_types.specs.declared.task.Order.TheVariants.{Fifo}
 use Rattle.tk_types.specs.declared.answer.Who.{Who}
@@ -21,22 +20,20 @@ use Rattle.kernel_model.specs.declared.objects.EventFlag.{EventFlag}
 use Rattle.kernel_model.specs.declared.objects.FlagWish.{FlagWish}
 use Rattle.kernel_model.specs.Checks.{Check, ◌otherwise◌, natural, within, plain, failed, done}
 use Rattle.kernel_model.specs.Views.{is_current}
-use Rattle.kernel_model.specs.Base.{Base, queue, task_at, limited, current, free_task, has_room, is_waiting_phase, wakeups_of, waits_for, take_bytes, create, delete, make_ready, make_wait, make_dormant, release, suspend, resume, resumed, set_base, set_current, set_wakeups, rotate}
-use Rattle.kernel_model.specs.Priority.{current_of}
+use Rattle.kernel_model.specs.Base.{Base, queue, task_at, free_task, has_room, wakeups_of, waits_for, take_bytes, create, delete, make_ready, make_wait, make_dormant, release, suspend, resume, resumed, set_wakeups, rotate}
 use Rattle.kernel_model.specs.SemFlags.{SemFlags, sem_at, flag_at, sem_object, flag_object, has_bits}
 use Rattle.kernel_model.specs.SemFlagCalls
 use Rattle.kernel_model.specs.SemFlagCalls.{SemFlagDone, sem_flag_checked, sem_flag_call, create_sem, create_flag, delete_sem, delete_flag, signal_sem, set_flag, clear_flag, refer_sem, refer_flag, wait_sem, wait_flag, first_ended, end_first, sem_waits_ended, flag_waits_ended, serves_at_once, waits_or_ends, waited_for_sem, waited_for_flag}
-use Rattle.kernel_model.specs.TaskCalls.{TaskDone, finished, task_call, create_task, delete_task, start_task, exit_task, terminate_task, change_priority, rotate_ready, get_task, refer_task, sleep, delay, wake_up, cancel_wakeups, release_wait, suspend_task, resume_task, create_checks, delete_checks, start_checks, terminate_checks, change_checks, named_checks, waiting_checks, wake_up_checks, cancel_checks, release_checks, suspend_checks, resume_checks, slept, delayed, woken, rebased, new_base, named, rotated_priority, shown, enabled_after, caller, sleep_object, delay_object}
+use Rattle.kernel_model.specs.TaskCalls.{TaskDone, finished, task_call, create_task, delete_task, start_task, exit_task, terminate_task, change_priority, rotate_ready, get_task, refer_task, sleep, delay, wake_up, cancel_wakeups, release_wait, suspend_task, resume_task, create_checks, delete_checks, start_checks, terminate_checks, named_checks, waiting_checks, wake_up_checks, cancel_checks, release_checks, suspend_checks, resume_checks, slept, delayed, woken, named, rotated_priority, shown, enabled_after, caller, sleep_object, delay_object}
 use Rattle.kernel_model.proofs.Checked.{sem_flag_cases}
 use Rattle.kernel_model.proofs.Counts.{if_cases, checked_cases}
 use Rattle.kernel_model.proofs.Settled.{AllUpToDate, IsUpToDate, released_up_to_date, row_up_to_date, slot_up_to_date, waiting_up_to_date}
 use Rattle.kernel_model.proofs.Tables.{entry_cases}
-
 use Rattle.tk_types.specs.declared.answer.Who.TheVariants as whos
 use Rattle.tk_types.specs.declared.answer.Outcome.{Outcome}
 use Rattle.tk_types.specs.declared.calls.Call.{Call}
 use Rattle.tk_types.specs.declared.calls.Call.TheVariants as calls
-use Rattle.tk_types.specs.declared.task.Phase.TheVariants.{Dormant, Ready, Waiting}
+use Rattle.tk_types.specs.declared.task.Phase.TheVariants.{Dormant, Ready}
 use Rattle.kernel_model.specs.Statements.{give, start_frame}
 use Rattle.kernel_model.specs.State.{State, frame_of, with_frame}
 use Rattle.kernel_model.specs.Calls.{answered, called, changes_priority, family_call, is_change, noted, with_start}
