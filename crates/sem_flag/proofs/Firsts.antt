@@ -8,6 +8,7 @@ use Rattle.kernel_model.specs.Orders.{entry}
 use Rattle.kernel_model.specs.Base.{Base}
 use Rattle.kernel_model.specs.Priority.{taken_from}
 use Rattle.kernel_model.specs.SemFlags.{SemFlags, SemFlagParts, first_served, flag_at, or_else, sem_at, serve_flag, serve_flag_at, serve_sem, serve_sem_at}
+use Rattle.sem_flag.specs.Tables.{AreFreeFrom}
 
 -- ---- one ID
 
@@ -40,12 +41,13 @@ found_at serve [] place id parts there is = absurd (cc there)
 found_at serve (slot ∷ slots) zero id parts there is = slot_found serve id slot slots parts there is
 found_at serve (slot ∷ slots) (suc place) id parts there is = found_at serve slots place id parts there is
 
-over_at : {A : Type 0} (serve : ℕ → Option SemFlagParts) (slots : List (Option A)) (place id : ℕ) → length slots ≤ place → first_served serve (taken_from id (drop place slots)) ≡ None
+free_at : {A : Type 0} (serve : ℕ → Option SemFlagParts) (slots : List (Option A)) (place id : ℕ) → ((n : ℕ) → place ≤ n → entry slots n ≡ None) → first_served serve (taken_from id (drop place slots)) ≡ None
 unfolding first_served
-over_at serve [] zero id over = refl
-over_at serve [] (suc place) id over = refl
-over_at serve (slot ∷ slots) zero id over = absurd (omega arith)
-over_at serve (slot ∷ slots) (suc place) id over = over_at serve slots place id (omega arith)
+free_at serve [] zero id free = refl
+free_at serve [] (suc place) id free = refl
+free_at serve (None ∷ slots) zero id free = free_at serve slots zero (id + 1) (λ n from. free (suc n) (omega arith))
+free_at serve (Some k ∷ slots) zero id free = absurd (cc (free zero (omega arith)))
+free_at serve (slot ∷ slots) (suc place) id free = free_at serve slots place id (λ n from. free (suc n) (omega (arith, from)))
 
 -- ---- only an object that exists serves
 
@@ -110,10 +112,10 @@ first_further serve slots id old turn new all inside same none moved left =
       same = moved ∙ ap (λ one. unwrap_or one turn) nobody ∙ same;
     }
 
--- no ID is left
-pub first_nowhere : {A : Type 0} (serve : ℕ → Option SemFlagParts) (slots : List (Option A)) (id : ℕ) (old turn : SemFlagParts) (all : Option SemFlagParts) → length slots ≤ id →
+-- no ID is left that is used
+pub first_nowhere : {A : Type 0} (serve : ℕ → Option SemFlagParts) (slots : List (Option A)) (used id : ℕ) (old turn : SemFlagParts) (all : Option SemFlagParts) → AreFreeFrom used slots → used ≤ id →
     turn ≡ old → first_served serve (taken_from id (drop id slots)) ≡ all →
     record { served : false ≡ is_some all; left : turn ≡ unwrap_or all old }
-first_nowhere serve slots id old turn all over same left =
-    let none : None ≡ all = sym (over_at serve slots id id over) ∙ left in
+first_nowhere serve slots used id old turn all unused over same left =
+    let none : None ≡ all = sym (free_at serve slots id id (λ n from. unused.free n (omega (arith, over, from)))) ∙ left in
     record { served = ap is_some none; left = same ∙ ap (λ one. unwrap_or one old) none }

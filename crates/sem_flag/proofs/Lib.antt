@@ -4,4 +4,5 @@ pub mod Firsts
 pub mod Keeping
 pub mod Looking
 pub mod Starting
+pub mod Tables
 pub mod Waiting

@@ -218,8 +218,8 @@ fn serve_first_sem(base: &mut Base, table: &mut SemFlags) -> bool
     ensures served { result ≡ is_some (first_served (serve_sem base.old table.old) (taken_from 1 (drop 1 table.old.sems))) }
     ensures left { parts_of base.new table.new ≡ unwrap_or (first_served (serve_sem base.old table.old) (taken_from 1 (drop 1 table.old.sems))) (parts_of base.old table.old) }
 {
-    let slots = table.slots();
-    'sems: for id in 1..slots {
+    let used = table.sems_used();
+    'sems: for id in 1..used {
         if serve_sem(base, table, id) {
             return true;
         }
@@ -233,8 +233,8 @@ fn serve_first_flag(base: &mut Base, table: &mut SemFlags) -> bool
     ensures served { result ≡ is_some (first_served (serve_flag base.old table.old) (taken_from 1 (drop 1 table.old.flags))) }
     ensures left { parts_of base.new table.new ≡ unwrap_or (first_served (serve_flag base.old table.old) (taken_from 1 (drop 1 table.old.flags))) (parts_of base.old table.old) }
 {
-    let slots = table.slots();
-    'flags: for id in 1..slots {
+    let used = table.flags_used();
+    'flags: for id in 1..used {
         if serve_flag(base, table, id) {
             return true;
         }

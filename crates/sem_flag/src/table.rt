@@ -5,6 +5,7 @@ ghost use Rattle.std.specs.Option.{is_some};
 ghost use Rattle.kernel_model.specs.Orders.{free_from};
 ghost use Rattle.kernel_model.specs.SemFlagCalls.{free_flag, free_sem};
 ghost use Rattle.kernel_model.specs.SemFlags.{count_of, flag_at, no_wish, sem_at, sem_flags_start, wish_of, with_flag, with_sem};
+ghost use Rattle.sem_flag.specs.Tables.{AreFreeFrom};
 
 use kernel_model::objects::{EventFlag, FlagWish, Semaphore};
 use std::alloc::{AllocError, Global};
@@ -18,6 +19,10 @@ pub struct SemFlags {
     flags: Vec<Option<EventFlag>>,
     counts: Vec<u16>,
     wishes: Vec<FlagWish>,
+    /// One more than the greatest ID whose slot for a semaphore was ever written, and 1 at first.
+    sems_used: u8,
+    /// The same for event flags.
+    flags_used: u8,
 }
 
 impl Model for SemFlags {
@@ -28,7 +33,7 @@ impl Model for SemFlags {
 
     ghost view = { λ s. record { sems = s.sems.items; flags = s.flags.items; counts = s.counts.items; wishes = s.wishes.items } };
 
-    ghost invariant = { λ s. AreTables s.sems.items s.flags.items s.counts.items s.wishes.items };
+    ghost invariant = { λ s. AreTables s.sems.items s.flags.items s.counts.items s.wishes.items s.sems_used s.flags_used };
 }
 
 /// The empty wish.
@@ -92,6 +97,7 @@ fn no_wishes(alloc: Global) -> Result<Vec<FlagWish>, AllocError>
 
 impl SemFlags {
     /// No semaphore and no event flag, and room for 64 of each.
+    #[tactic(auto, using(crate::proofs::Tables::fit_at_start))]
     pub fn new(alloc: Global) -> Result<SemFlags, AllocError>
         ensures { IfOk result (λ table. table ≡ sem_flags_start) }
     {
@@ -100,16 +106,37 @@ impl SemFlags {
             flags: free_flags(alloc)?,
             counts: no_counts(alloc)?,
             wishes: no_wishes(alloc)?,
+            sems_used: 1,
+            flags_used: 1,
         })
     }
 
     /// How many slots there are for semaphores, and as many for event flags: one for each ID, and one for 0.
+    #[cfg(test)]
     pub(crate) fn slots(&self) -> u8
         ensures sems { result ≡ length self.now.sems }
         ensures flags { result ≡ length self.now.flags }
         ensures within { result ≤ 65 }
     {
         self.sems.len() as u8
+    }
+
+    /// How far the slots for semaphores are used: no semaphore has that ID or a greater one.
+    pub(crate) fn sems_used(&self) -> u8
+        ensures within { result ≤ length self.now.sems }
+        ensures few { result ≤ 65 }
+        ensures free { AreFreeFrom result self.now.sems }
+    {
+        self.sems_used
+    }
+
+    /// How far the slots for event flags are used: no event flag has that ID or a greater one.
+    pub(crate) fn flags_used(&self) -> u8
+        ensures within { result ≤ length self.now.flags }
+        ensures few { result ≤ 65 }
+        ensures free { AreFreeFrom result self.now.flags }
+    {
+        self.flags_used
     }
 
     /// Whether the semaphore with that ID exists.
@@ -147,19 +174,23 @@ impl SemFlags {
     }
 
     /// Writes the slot of a semaphore.
+    #[tactic(auto, using(crate::proofs::Tables::free_written))]
     pub(crate) fn set_sem(&mut self, id: u8, slot: Option<Semaphore>)
         requires { id ≤ 64 }
         ensures { self.new ≡ with_sem self.old id slot }
     {
         self.sems[id as usize] = slot;
+        self.sems_used = self.sems_used.max(id + 1);
     }
 
     /// Writes the slot of an event flag.
+    #[tactic(auto, using(crate::proofs::Tables::free_written))]
     pub(crate) fn set_flag(&mut self, id: u8, slot: Option<EventFlag>)
         requires { id ≤ 64 }
         ensures { self.new ≡ with_flag self.old id slot }
     {
         self.flags[id as usize] = slot;
+        self.flags_used = self.flags_used.max(id + 1);
     }
 
     /// The count that a task asked for when it last waited for a semaphore.

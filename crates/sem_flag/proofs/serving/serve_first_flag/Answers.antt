@@ -16,5 +16,5 @@ flags-preserved c =
 
 pub returns : goal.returns
 returns c =
-    first_nowhere (serve_flag c.args.base.now c.args.table.now) c.args.table.now.flags c.flags.id (parts_of c.args.base.now c.args.table.now) (parts_of c.flags.base c.flags.table) _
-    (omega arith) c.flags.invariant.same c.flags.invariant.all
+    first_nowhere (serve_flag c.args.base.now c.args.table.now) c.args.table.now.flags c.flags_used-used.result c.flags.id (parts_of c.args.base.now c.args.table.now) (parts_of c.flags.base c.flags.table) _
+    c.flags_used-used.ensures.free c.flags-test.false c.flags.invariant.same c.flags.invariant.all

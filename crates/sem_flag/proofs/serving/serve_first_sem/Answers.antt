@@ -16,5 +16,5 @@ sems-preserved c =
 
 pub returns : goal.returns
 returns c =
-    first_nowhere (serve_sem c.args.base.now c.args.table.now) c.args.table.now.sems c.sems.id (parts_of c.args.base.now c.args.table.now) (parts_of c.sems.base c.sems.table) _
-    (omega arith) c.sems.invariant.same c.sems.invariant.all
+    first_nowhere (serve_sem c.args.base.now c.args.table.now) c.args.table.now.sems c.sems_used-used.result c.sems.id (parts_of c.args.base.now c.args.table.now) (parts_of c.sems.base c.sems.table) _
+    c.sems_used-used.ensures.free c.sems-test.false c.sems.invariant.same c.sems.invariant.all
