@@ -6,10 +6,10 @@ use Rattle.std.proofs.lemmas.Bool.Decides.{nat_tests}
 use Rattle.tk_types.specs.declared.task.Task.{Task}
 use Rattle.ready_queue.specs.declared.places.ReadyTask.{ReadyTask}
 use Rattle.ready_queue.specs.Queue.{first_task, holds_task, next_task, places_of}
-use Rattle.kernel_model.specs.Orders.{head_or_zero}
-use Rattle.kernel_model.specs.Base.{Base, chosen, current, is_ready, is_ready_with, ready_list, ready_of}
-use Rattle.kernel_model.specs.Once.{times}
-use Rattle.kernel_model.proofs.ReadyLists.{chosen_is_first, priority_in, ready_of_level, times_ready}
+use Rattle.kernel_model.specs.Words.Orders.{head_or_zero}
+use Rattle.kernel_model.specs.Tasks.Base.{Base, chosen, current, is_ready, is_ready_with, ready_list, ready_of}
+use Rattle.kernel_model.specs.LawWords.Once.{times}
+use Rattle.kernel_lemmas.proofs.ReadyLists.{chosen_is_first, priority_in, ready_of_level, times_ready}
 use Rattle.kernel_base.specs.Queues.{behind, next_ready}
 use Rattle.kernel_base.specs.Ready.{place_in, places_in}
 

@@ -11,11 +11,11 @@ use Rattle.tk_types.specs.declared.task.Order.{Order}
 use Rattle.tk_types.specs.declared.task.Order.TheVariants.{Fifo, Priority}
 use Rattle.wait_queue.specs.declared.waiters.Waiter.{Waiter}
 use Rattle.wait_queue.specs.Queues.{WaitTable, first_task, is_of_task, next_waiter, queue_of, task_in_place, waits}
-use Rattle.kernel_model.specs.Orders.{entry}
-use Rattle.kernel_model.specs.Once.{times}
-use Rattle.kernel_model.specs.Base.{Base, queue, waiting_in, waits_in}
-use Rattle.kernel_model.specs.Queues.{AreOfOrder, order_of_first, queue_at}
-use Rattle.kernel_model.proofs.ReadyLists.{times_filter_is}
+use Rattle.kernel_model.specs.Words.Orders.{entry}
+use Rattle.kernel_model.specs.LawWords.Once.{times}
+use Rattle.kernel_model.specs.Tasks.Base.{Base, queue, waiting_in, waits_in}
+use Rattle.kernel_model.specs.Tasks.Queues.{AreOfOrder, order_of_first, queue_at}
+use Rattle.kernel_lemmas.proofs.ReadyLists.{times_filter_is}
 use Rattle.kernel_base.specs.Waiting.{AreWaits, IsQueue, next_waiting, object_of, object_of_phase, queued_in, waiter_at, waits_at}
 use Rattle.kernel_base.proofs.WaitLists.{AllQueue, all_filter, all_queued, queued_either, same_id}
 use Rattle.kernel_base.proofs.WaiterLists.{all_waiters, each_of_queues, first_stands, next_stands}

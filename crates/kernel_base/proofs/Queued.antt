@@ -9,9 +9,9 @@ use Rattle.tk_types.specs.declared.task.Task.{Task}
 use Rattle.ready_queue.specs.declared.places.ReadyTask.{ReadyTask}
 use Rattle.ready_queue.specs.Queue.{holds_task, put_behind, without_task}
 use Rattle.ready_queue.proofs.Keyed.{gone}
-use Rattle.kernel_model.specs.Orders.{entry, insert_behind, to_back, without}
-use Rattle.kernel_model.specs.Base.{current_in, may_run, ready_in}
-use Rattle.kernel_model.proofs.ReadyLists.{AreSameBut, alike_at, deleted_from, entry_written, priority_in, same_but_written, stopped_in_place, stopped_to_last, written_alike, written_last}
+use Rattle.kernel_model.specs.Words.Orders.{entry, insert_behind, to_back, without}
+use Rattle.kernel_model.specs.Tasks.Base.{current_in, may_run, ready_in}
+use Rattle.kernel_lemmas.proofs.ReadyLists.{AreSameBut, alike_at, deleted_from, entry_written, priority_in, same_but_written, stopped_in_place, stopped_to_last, written_alike, written_last}
 use Rattle.kernel_base.specs.Ready.{IsQueued, fits_slot, place_in, places_in, requeued}
 
 -- ---- lists of IDs and of places

@@ -11,16 +11,16 @@ use Rattle.tk_types.specs.declared.task.Order.{Order}
 use Rattle.tk_types.specs.declared.task.Order.TheVariants.{Fifo, Priority}
 use Rattle.wait_queue.specs.declared.waiters.Waiter.{Waiter}
 use Rattle.wait_queue.specs.Queues.{WaitTable, without_waiter}
-use Rattle.kernel_model.specs.Orders.{entry, to_back, without}
-use Rattle.kernel_model.specs.Once.{IsOnce, times}
-use Rattle.kernel_model.specs.Base.{Base, task_at, waiting_in, waits_in, waits_somewhere, with_task}
-use Rattle.kernel_model.specs.Queues.{queue_in}
-use Rattle.kernel_model.proofs.Once.{times_without}
-use Rattle.kernel_model.proofs.Sorting.{here_is}
+use Rattle.kernel_model.specs.Words.Orders.{entry, to_back, without}
+use Rattle.kernel_model.specs.LawWords.Once.{IsOnce, times}
+use Rattle.kernel_model.specs.Tasks.Base.{Base, task_at, waiting_in, waits_in, waits_somewhere, with_task}
+use Rattle.kernel_model.specs.Tasks.Queues.{queue_in}
+use Rattle.kernel_lemmas.proofs.Once.{times_without}
+use Rattle.kernel_lemmas.proofs.Sorting.{here_is}
 use Rattle.kernel_base.specs.Waiting.{AreWaits, IsQueue, moved_back, object_of, object_of_phase, queued_in, renewed, renewed_by, rewaited, waiter_at, waits_at}
 use Rattle.kernel_base.proofs.WaitLists.{not_queued, queued_left, same_id, times_other}
 use Rattle.kernel_base.proofs.Waited.{Joins, stands_back, times_back, waits_joined, waits_left, without_back, without_twice}
-use Rattle.kernel_model.proofs.Tables.{itself}
+use Rattle.kernel_lemmas.proofs.Tables.{itself}
 
 -- ---- an order that is restored
 

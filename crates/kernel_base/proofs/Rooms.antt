@@ -9,10 +9,10 @@ use Rattle.tk_types.specs.declared.task.Event.TheVariants.{Wait, Cyclic, Alarm}
 use Rattle.tk_types.specs.declared.task.DueEvent.{DueEvent}
 use Rattle.tk_types.specs.declared.task.Release.{Release}
 use Rattle.tk_types.specs.declared.answer.Answer.{Answer}
-use Rattle.kernel_model.specs.Once.{times, IsOnce, AreBelow}
-use Rattle.kernel_model.specs.Orders.{without}
-use Rattle.kernel_model.specs.Events.{insert_event, without_wait, without_key, is_wait_of, ends_wait_of, left_after, is_due}
-use Rattle.kernel_model.proofs.Once.{times_without, once_filter, once_drop, once_behind, room_below, below_filter}
+use Rattle.kernel_model.specs.LawWords.Once.{times, IsOnce, AreBelow}
+use Rattle.kernel_model.specs.Words.Orders.{without}
+use Rattle.kernel_model.specs.Words.Events.{insert_event, without_wait, without_key, is_wait_of, ends_wait_of, left_after, is_due}
+use Rattle.kernel_lemmas.proofs.Once.{times_without, once_filter, once_drop, once_behind, room_below, below_filter}
 use Rattle.std.specs.Prelude.{Option, ◌||◌, ◌&&◌, nat_le}
 use Rattle.std.proofs.Math.ListN.{length-set}
 use Rattle.time_queue.specs.Queue.{Queue}

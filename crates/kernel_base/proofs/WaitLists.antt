@@ -7,13 +7,13 @@ use Rattle.std.proofs.lemmas.Bool.Decides.{nat_tests}
 use Rattle.tk_types.specs.declared.task.Task.{Task}
 use Rattle.tk_types.specs.declared.task.Order.{Order}
 use Rattle.tk_types.specs.declared.task.Order.TheVariants.{Fifo, Priority}
-use Rattle.kernel_model.specs.Orders.{entry, insert_behind, sort_by, to_back, without}
-use Rattle.kernel_model.specs.Once.{times}
-use Rattle.kernel_model.specs.Base.{current_in, waiting_in}
-use Rattle.kernel_model.specs.Queues.{queue_in}
-use Rattle.kernel_model.proofs.Sorting.{alike_filter, filter_sort, sort_alike, sort_behind}
-use Rattle.kernel_model.proofs.Filters as filters
-use Rattle.kernel_model.proofs.ReadyLists.{AreSameBut}
+use Rattle.kernel_model.specs.Words.Orders.{entry, insert_behind, sort_by, to_back, without}
+use Rattle.kernel_model.specs.LawWords.Once.{times}
+use Rattle.kernel_model.specs.Tasks.Base.{current_in, waiting_in}
+use Rattle.kernel_model.specs.Tasks.Queues.{queue_in}
+use Rattle.kernel_lemmas.proofs.Sorting.{alike_filter, filter_sort, sort_alike, sort_behind}
+use Rattle.kernel_lemmas.proofs.Filters as filters
+use Rattle.kernel_lemmas.proofs.ReadyLists.{AreSameBut}
 use Rattle.kernel_base.specs.Waiting.{priority_at, queued_in, waits_at}
 
 pub differs_of : (n t : ℕ) → not (n == t) ≡ true → n ≢ t

@@ -17,16 +17,16 @@ use Rattle.wait_queue.specs.Facts as waiters
 use Rattle.wait_queue.proofs.Others.{leaves_queue}
 use Rattle.ready_queue.proofs.Keyed.{all_differ, gone, none_left_out}
 use Rattle.std.proofs.lemmas.Bool.{or_parts}
-use Rattle.kernel_model.specs.Orders.{entry, to_back, without}
-use Rattle.kernel_model.specs.Once.{times}
-use Rattle.kernel_model.specs.Base.{Base, current_in, waiting_in, waits_in, waits_somewhere}
-use Rattle.kernel_model.specs.Queues.{AreOfOrder, queue_in}
-use Rattle.kernel_model.proofs.ReadyLists.{AreSameBut, alike_at, entry_written, same_but_written}
-use Rattle.kernel_model.proofs.Tables.{entry_same, itself}
-use Rattle.kernel_model.proofs.Sorting.{not_here}
-use Rattle.kernel_model.proofs.Filters.{filter_absent}
-use Rattle.kernel_model.proofs.Once.{times_append}
-use Rattle.kernel_model.proofs.Tables.{none_there}
+use Rattle.kernel_model.specs.Words.Orders.{entry, to_back, without}
+use Rattle.kernel_model.specs.LawWords.Once.{times}
+use Rattle.kernel_model.specs.Tasks.Base.{Base, current_in, waiting_in, waits_in, waits_somewhere}
+use Rattle.kernel_model.specs.Tasks.Queues.{AreOfOrder, queue_in}
+use Rattle.kernel_lemmas.proofs.ReadyLists.{AreSameBut, alike_at, entry_written, same_but_written}
+use Rattle.kernel_lemmas.proofs.Tables.{entry_same, itself}
+use Rattle.kernel_lemmas.proofs.Sorting.{not_here}
+use Rattle.kernel_lemmas.proofs.Filters.{filter_absent}
+use Rattle.kernel_lemmas.proofs.Once.{times_append}
+use Rattle.kernel_lemmas.proofs.Tables.{none_there}
 use Rattle.kernel_base.specs.Waiting.{AreWaits, IsQueue, IsWaiter, MayQueue, most_objects, phase_in, priority_at, queued_in, restamped, restamped_by, rewaited, waiter_at, waits_at}
 use Rattle.kernel_base.proofs.WaitLists.{AllQueue, all_queued, fifo_alike, not_queued, queued_alike, queued_either, queued_joined, queued_left, same_id, times_other}
 use Rattle.kernel_base.proofs.WaiterLists.{all_waiters, each_of_queues, noted_stand, queue_without, reordered_noted, rewaited_elsewhere, rewaited_queue}

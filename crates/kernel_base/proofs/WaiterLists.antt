@@ -14,11 +14,11 @@ use Rattle.wait_queue.specs.declared.waiters.Waiter.{Waiter}
 use Rattle.wait_queue.specs.Queues.{first_moved, first_task, goes_ahead, is_ahead, is_of_object, is_of_task, joined, moved, next_waiter, noted, queue_of, reordered, waits, with_priority, without_waiter}
 use Rattle.wait_queue.proofs.Others.{join_keeps_others, leaves_queue}
 use Rattle.ready_queue.proofs.Found.{here_is, not_here}
-use Rattle.kernel_model.specs.Orders.{entry, insert_behind, without}
-use Rattle.kernel_model.specs.Base.{waiting_in, waits_in}
-use Rattle.kernel_model.specs.Queues.{queue_in}
-use Rattle.kernel_model.proofs.ReadyLists.{AreSameBut}
-use Rattle.kernel_model.proofs.Tables.{itself}
+use Rattle.kernel_model.specs.Words.Orders.{entry, insert_behind, without}
+use Rattle.kernel_model.specs.Tasks.Base.{waiting_in, waits_in}
+use Rattle.kernel_model.specs.Tasks.Queues.{queue_in}
+use Rattle.kernel_lemmas.proofs.ReadyLists.{AreSameBut}
+use Rattle.kernel_lemmas.proofs.Tables.{itself}
 use Rattle.kernel_base.specs.Queues.{behind}
 use Rattle.kernel_base.specs.Waiting.{priority_at, rewaited, waiter_as, waiter_at}
 use Rattle.kernel_base.proofs.WaitLists.{differs_of, placed, same_id}

@@ -1,6 +1,6 @@
 -- Who stands behind whom.
 use Rattle.std.specs.Prelude.{ℕ, ◌==◌, if◌then◌else◌, List, [], ◌∷◌, Option, filter, slice_get}
-use Rattle.kernel_model.specs.Base.{Base, current, is_ready_with}
+use Rattle.kernel_model.specs.Tasks.Base.{Base, current, is_ready_with}
 
 -- the IDs that stand behind one in an order
 abbrev pub behind : ℕ → List ℕ → List ℕ

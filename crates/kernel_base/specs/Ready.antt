@@ -4,8 +4,8 @@ use Rattle.std.specs.List.{AllPass}
 use Rattle.tk_types.specs.declared.task.Task.{Task}
 use Rattle.ready_queue.specs.declared.places.ReadyTask.{ReadyTask}
 use Rattle.ready_queue.specs.Queue.{put_behind, without_task}
-use Rattle.kernel_model.specs.Orders.{entry}
-use Rattle.kernel_model.specs.Base.{current_in, may_run, ready_in}
+use Rattle.kernel_model.specs.Words.Orders.{entry}
+use Rattle.kernel_model.specs.Tasks.Base.{current_in, may_run, ready_in}
 
 -- a priority that a task may have
 abbrev pub is_priority : ℕ → Bool

@@ -6,7 +6,7 @@ use Rattle.tk_types.specs.declared.task.Event.TheVariants.{Wait, Cyclic, Alarm}
 use Rattle.tk_types.specs.declared.task.DueEvent.{DueEvent}
 use Rattle.tk_types.specs.declared.task.Release.{Release}
 use Rattle.ready_queue.specs.declared.places.ReadyTask.{ReadyTask}
-use Rattle.kernel_model.specs.Once.{AreBelow, IsOnce}
+use Rattle.kernel_model.specs.LawWords.Once.{AreBelow, IsOnce}
 use Rattle.wait_queue.specs.Queues.{WaitTable}
 use Rattle.kernel_base.specs.Ready.{IsQueued}
 use Rattle.kernel_base.specs.Waiting.{AreWaits}

@@ -2,9 +2,9 @@
 use Rattle.std.specs.Prelude.{ℕ, ◌==◌, Option, position}
 use Rattle.std.specs.Option.{option_map}
 use Rattle.tk_types.specs.declared.task.Task.{Task}
-use Rattle.kernel_model.specs.Base.{Base, task_at}
-use Rattle.kernel_model.specs.Events.{limit_of}
-use Rattle.kernel_model.specs.Views.{object_in, state_in}
+use Rattle.kernel_model.specs.Tasks.Base.{Base, task_at}
+use Rattle.kernel_model.specs.Words.Events.{limit_of}
+use Rattle.kernel_model.specs.Tasks.Views.{object_in, state_in}
 use Rattle.kernel_base.specs.declared.view.TaskView.{TaskView}
 
 abbrev pub view_in : Base → ℕ → Task → TaskView

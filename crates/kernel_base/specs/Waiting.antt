@@ -9,10 +9,10 @@ use Rattle.tk_types.specs.declared.task.Order.TheVariants.{Fifo, Priority}
 use Rattle.wait_queue.specs.declared.waiters.Waiter.{Waiter}
 use Rattle.wait_queue.specs.Queues.{WaitTable, joined, queue_of, reordered, without_waiter}
 use Rattle.wait_queue.specs.Facts as waiters
-use Rattle.kernel_model.specs.Orders.{entry, sort_by, to_back}
-use Rattle.kernel_model.specs.Once.{times}
-use Rattle.kernel_model.specs.Base.{Base, current_in, task_at, waiting_in}
-use Rattle.kernel_model.specs.Queues.{queue_at, queue_in}
+use Rattle.kernel_model.specs.Words.Orders.{entry, sort_by, to_back}
+use Rattle.kernel_model.specs.LawWords.Once.{times}
+use Rattle.kernel_model.specs.Tasks.Base.{Base, current_in, task_at, waiting_in}
+use Rattle.kernel_model.specs.Tasks.Queues.{queue_at, queue_in}
 use Rattle.kernel_base.specs.Queues.{behind}
 
 -- how many objects there are

@@ -1,8 +1,8 @@
 //! Answers of calls, and who makes them.
 
 ghost use Rattle.std.specs.Prelude.{◌≡◌};
-ghost use Rattle.kernel_model.specs.Checks.{done, failed, plain};
-ghost use Rattle.kernel_model.specs.TaskCalls.{caller};
+ghost use Rattle.kernel_model.specs.Words.Checks.{done, failed, plain};
+ghost use Rattle.kernel_model.specs.Tasks.Calls.{caller};
 
 use tk_types::{Answer, Er, Outcome, Who};
 

@@ -1,7 +1,7 @@
 //! What the kernel keeps of tasks.
 
 ghost use Rattle.std.specs.Prelude.{◌≡◌, ◌≤◌, IfOk, None, replicate};
-ghost use Rattle.kernel_model.specs.Base.{base_start};
+ghost use Rattle.kernel_model.specs.Tasks.Base.{base_start};
 
 use crate::ids::Ids;
 use crate::queueing::requeue;
@@ -38,7 +38,7 @@ pub struct Base {
 }
 
 impl Model for Base {
-    ghost use Rattle.kernel_model.specs.Base.{Base as BaseView};
+    ghost use Rattle.kernel_model.specs.Tasks.Base.{Base as BaseView};
     ghost use Rattle.kernel_base.specs.Room.{IsBase};
 
     ghost Value = { BaseView };

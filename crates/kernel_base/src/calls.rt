@@ -1,8 +1,8 @@
 //! What delays dispatching, which calls that forbids, and simulated memory.
 
 ghost use Rattle.std.specs.Prelude.{◌≡◌, ◌<◌, ◌^◌, slice_get};
-ghost use Rattle.kernel_model.specs.Base.{advance, chosen, dispatch, give_bytes, has_room, set_flags, take_bytes, take_release};
-ghost use Rattle.kernel_model.specs.Marks.{allowed, allows, is_task as is_a_task, mark_of};
+ghost use Rattle.kernel_model.specs.Tasks.Base.{advance, chosen, dispatch, give_bytes, has_room, set_flags, take_bytes, take_release};
+ghost use Rattle.kernel_model.specs.Tasks.Marks.{allowed, allows, is_task as is_a_task, mark_of};
 
 use crate::base::Base;
 use kernel_model::marks::Mark;
@@ -12,7 +12,7 @@ use tk_types::{Call, CallName, Flags, Release, Who};
 const MEMORY_LIMIT: u64 = 1_048_576;
 
 /// The mark that the table of calls gives a call.
-#[tactic(auto, unfolding(kernel_model::specs::Marks::mark_of))]
+#[tactic(auto, unfolding(kernel_model::specs::Tasks::Marks::mark_of))]
 fn mark_of(name: CallName) -> Mark
     ensures { result ≡ mark_of name }
 {
@@ -67,7 +67,7 @@ fn allows(flags: Flags, who: Who, mark: Mark) -> bool
 
 impl Base {
     /// Whether a call may be made: false is the cause of E_CTX by the mark that the table of calls gives it.
-    #[tactic(auto, unfolding(kernel_model::specs::Marks::allowed))]
+    #[tactic(auto, unfolding(kernel_model::specs::Tasks::Marks::allowed))]
     pub fn allowed(&self, who: Who, c: &Call) -> bool
         ensures { result ≡ allowed self.now who c.now }
     {

@@ -1,7 +1,7 @@
 //! Tasks are made, started and ended.
 
 ghost use Rattle.std.specs.Prelude.{◌≡◌, ◌≤◌};
-ghost use Rattle.kernel_model.specs.Base.{create, delete, gone, make_dormant, make_ready};
+ghost use Rattle.kernel_model.specs.Tasks.Base.{create, delete, gone, make_dormant, make_ready};
 
 use crate::base::Base;
 use crate::rows::{created, ended, readied};

@@ -1,8 +1,8 @@
 //! What is set for a time.
 
 ghost use Rattle.std.specs.Prelude.{◌≡◌, ◌<◌, ◌^◌, ◌==◌, not, length, false, true};
-ghost use Rattle.kernel_model.specs.Base.{add_event, cancel_event, take_due};
-ghost use Rattle.kernel_model.specs.Events.{due_event, has_key};
+ghost use Rattle.kernel_model.specs.Tasks.Base.{add_event, cancel_event, take_due};
+ghost use Rattle.kernel_model.specs.Words.Events.{due_event, has_key};
 ghost use Rattle.kernel_base.specs.Handlers.{has_event, is_handler};
 
 use crate::base::Base;

@@ -1,8 +1,8 @@
 //! An order of task IDs, the earliest first, each at most once. Its room is taken once, for all 256.
 
 ghost use Rattle.std.specs.Prelude.{◌≡◌, ◌≤◌, ◌∷◌, IfOk, [], length, take, vec_capacity};
-ghost use Rattle.kernel_model.specs.Once.{IsOnce};
-ghost use Rattle.kernel_model.specs.Orders.{to_back, without};
+ghost use Rattle.kernel_model.specs.LawWords.Once.{IsOnce};
+ghost use Rattle.kernel_model.specs.Words.Orders.{to_back, without};
 
 use std::alloc::{AllocError, Global};
 use std::marker::Model;

@@ -1,8 +1,8 @@
 //! Priorities, and precedence among equals.
 
 ghost use Rattle.std.specs.Prelude.{◌≡◌, ◌≤◌, slice_get};
-ghost use Rattle.kernel_model.specs.Base.{is_ready_with, ready_of, rotate, set_base, set_current};
-ghost use Rattle.kernel_model.specs.Orders.{to_back};
+ghost use Rattle.kernel_model.specs.Tasks.Base.{is_ready_with, ready_of, rotate, set_base, set_current};
+ghost use Rattle.kernel_model.specs.Words.Orders.{to_back};
 ghost use Rattle.kernel_base.specs.Queues.{next_ready};
 
 use crate::base::Base;

@@ -1,9 +1,9 @@
 //! What the base tells of its tasks.
 
 ghost use Rattle.std.specs.Prelude.{◌≡◌, ◌≤◌, ◌&&◌, ◌==◌, None, drop, length, true};
-ghost use Rattle.kernel_model.specs.Base.{base_of, chosen, current, free_task, has_room, initial_of, is_dormant, is_dormant_phase, is_ready, is_ready_phase, is_waiting, is_waiting_phase, suspensions_of, task_at, waits_for, waits_in, wakeups_of};
-ghost use Rattle.kernel_model.specs.Orders.{free_from};
-ghost use Rattle.kernel_model.specs.Views.{is_current};
+ghost use Rattle.kernel_model.specs.Tasks.Base.{base_of, chosen, current, free_task, has_room, initial_of, is_dormant, is_dormant_phase, is_ready, is_ready_phase, is_waiting, is_waiting_phase, suspensions_of, task_at, waits_for, waits_in, wakeups_of};
+ghost use Rattle.kernel_model.specs.Words.Orders.{free_from};
+ghost use Rattle.kernel_model.specs.Tasks.Views.{is_current};
 ghost use Rattle.std.specs.Option.{is_some};
 
 use crate::base::Base;
@@ -195,7 +195,7 @@ impl Base {
     }
 
     /// The least free ID, or 0 where none is free.
-    #[tactic(auto, unfolding(kernel_model::specs::Base::free_task))]
+    #[tactic(auto, unfolding(kernel_model::specs::Tasks::Base::free_task))]
     pub fn free_task(&self) -> u8
         ensures { result ≡ free_task self.now }
     {
@@ -214,7 +214,7 @@ impl Base {
 }
 
 /// The least free ID of a table, or 0.
-#[tactic(auto, unfolding(kernel_model::specs::Orders::free_from))]
+#[tactic(auto, unfolding(kernel_model::specs::Words::Orders::free_from))]
 fn least_free(slots: &[Option<Task>]) -> u8
     requires { length slots.now ≡ 256 }
     ensures { result ≡ free_from 1 (drop 1 slots.now) }

@@ -1,7 +1,7 @@
 //! The ends of waits that weren't taken yet, in order, at most one for each task. Their room is taken once.
 
 ghost use Rattle.std.specs.Prelude.{◌≡◌, ◌==◌, not, IfOk, [], filter, drop, slice_get, vec_capacity};
-ghost use Rattle.kernel_model.specs.Base.{recorded};
+ghost use Rattle.kernel_model.specs.Tasks.Base.{recorded};
 
 use std::alloc::{AllocError, Global};
 use std::marker::Model;

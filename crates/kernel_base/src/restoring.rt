@@ -1,9 +1,9 @@
 //! A task that waits gets another wait, and keeps its places in the orders.
 
 ghost use Rattle.std.specs.Prelude.{◌≡◌, ◌<◌, ◌≤◌, take, true};
-ghost use Rattle.kernel_model.specs.Base.{task_at, waits_somewhere, with_task};
-ghost use Rattle.kernel_model.specs.Orders.{to_back};
-ghost use Rattle.kernel_model.specs.Queues.{AreOfOrder};
+ghost use Rattle.kernel_model.specs.Tasks.Base.{task_at, waits_somewhere, with_task};
+ghost use Rattle.kernel_model.specs.Words.Orders.{to_back};
+ghost use Rattle.kernel_model.specs.Tasks.Queues.{AreOfOrder};
 ghost use Rattle.tk_types.specs.declared.task.Phase.TheVariants.{Waiting};
 ghost use Rattle.kernel_base.specs.Ready.{has_priorities};
 ghost use Rattle.kernel_base.specs.Waiting.{moved_back};

@@ -1,7 +1,7 @@
 //! Suspensions and wake-up requests.
 
 ghost use Rattle.std.specs.Prelude.{◌≡◌, ◌<◌, ◌≤◌, ◌-◌, ◌==◌, if◌then◌else◌};
-ghost use Rattle.kernel_model.specs.Base.{resume, set_wakeups, suspend, suspensions_of};
+ghost use Rattle.kernel_model.specs.Tasks.Base.{resume, set_wakeups, suspend, suspensions_of};
 
 use crate::base::Base;
 use crate::ending::gone;

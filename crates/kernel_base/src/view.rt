@@ -2,9 +2,9 @@
 
 ghost use Rattle.std.specs.Prelude.{◌≡◌, Some, None, position, ◌==◌};
 ghost use Rattle.std.specs.Option.{option_map};
-ghost use Rattle.kernel_model.specs.Base.{task_at};
-ghost use Rattle.kernel_model.specs.Events.{limit_of};
-ghost use Rattle.kernel_model.specs.Views.{is_suspended, object_in, state_in, state_number};
+ghost use Rattle.kernel_model.specs.Tasks.Base.{task_at};
+ghost use Rattle.kernel_model.specs.Words.Events.{limit_of};
+ghost use Rattle.kernel_model.specs.Tasks.Views.{is_suspended, object_in, state_in, state_number};
 ghost use Rattle.kernel_base.specs.Views.{view_of};
 
 use crate::base::Base;

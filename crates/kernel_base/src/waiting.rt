@@ -1,11 +1,11 @@
 //! Waits begin, move and end, and who waits.
 
 ghost use Rattle.std.specs.Prelude.{◌≡◌, ◌<◌, ◌^◌, length, slice_get, true};
-ghost use Rattle.kernel_model.specs.Base.{back_unless_suspended, is_waiting, make_wait, move_wait, queue, release, with_task};
+ghost use Rattle.kernel_model.specs.Tasks.Base.{back_unless_suspended, is_waiting, make_wait, move_wait, queue, release, with_task};
 ghost use Rattle.tk_types.specs.declared.task.Phase.TheVariants.{Ready};
-ghost use Rattle.kernel_model.specs.Orders.{head_or_zero};
-ghost use Rattle.kernel_model.specs.Queues.{AreOfOrder, queue_at};
-ghost use Rattle.kernel_model.specs.Waits.{HavePlaces};
+ghost use Rattle.kernel_model.specs.Words.Orders.{head_or_zero};
+ghost use Rattle.kernel_model.specs.Tasks.Queues.{AreOfOrder, queue_at};
+ghost use Rattle.kernel_model.specs.Tasks.Waits.{HavePlaces};
 ghost use Rattle.kernel_base.specs.Waiting.{next_waiting};
 ghost use Rattle.kernel_base.specs.Ready.{has_priorities};
 

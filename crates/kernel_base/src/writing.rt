@@ -2,11 +2,11 @@
 //! kept by both.
 
 ghost use Rattle.std.specs.Prelude.{◌≡◌, ◌<◌, None, Some, false, true, slice_set};
-ghost use Rattle.kernel_model.specs.Base.{current, is_ready, may_run, task_at, waits_somewhere, with_task};
-ghost use Rattle.kernel_model.specs.Queues.{AreOfOrder, queue_in};
+ghost use Rattle.kernel_model.specs.Tasks.Base.{current, is_ready, may_run, task_at, waits_somewhere, with_task};
+ghost use Rattle.kernel_model.specs.Tasks.Queues.{AreOfOrder, queue_in};
 ghost use Rattle.tk_types.specs.declared.task.Phase.TheVariants.{Waiting};
 ghost use Rattle.kernel_base.specs.Waiting.{phase_in};
-ghost use Rattle.kernel_model.specs.Orders.{to_back, without};
+ghost use Rattle.kernel_model.specs.Words.Orders.{to_back, without};
 ghost use Rattle.kernel_base.specs.Ready.{fits_slot, has_priorities};
 
 use crate::base::Base;

@@ -1,8 +1,6 @@
-//! The rules of the simulated kernel, as definitions that compute: the crate's `specs/` hold them, and its
-//! `proofs/` the laws about them. There is no other code than the types that the rules name and the laws that a
-//! reader should see.
+//! The rules of the simulated kernel, as definitions that compute: the crate's `specs/` hold them, a folder for each family
+//! of calls. There is no other code than the types that the rules name.
 #![tactic(auto)]
 
-pub mod laws;
 pub mod marks;
 pub mod objects;

@@ -10,11 +10,11 @@ use Rattle.tk_types.specs.declared.task.Order.{Order}
 use Rattle.tk_types.specs.declared.answer.Answer.{Answer}
 use Rattle.tk_types.specs.declared.error_code.Er.TheVariants as er
 use Rattle.tk_types.specs.Codes.{code_of}
-use Rattle.kernel_model.specs.Checks.{plain}
-use Rattle.kernel_model.specs.Base.{Base, is_waiting, queue, release, task_at, waiting_in, waits_in, waits_for, waits_somewhere, is_waiting_phase}
-use Rattle.kernel_model.specs.Queues.{AreOfOrder, queue_in}
-use Rattle.kernel_model.specs.SemFlagCalls.{end_first, first_ended}
-use Rattle.kernel_model.proofs.Releases.{release_others, release_over}
+use Rattle.kernel_model.specs.Words.Checks.{plain}
+use Rattle.kernel_model.specs.Tasks.Base.{Base, is_waiting, queue, release, task_at, waiting_in, waits_in, waits_for, waits_somewhere, is_waiting_phase}
+use Rattle.kernel_model.specs.Tasks.Queues.{AreOfOrder, queue_in}
+use Rattle.kernel_model.specs.SemFlags.Calls.{end_first, first_ended}
+use Rattle.kernel_lemmas.proofs.Releases.{release_others, release_over}
 
 waits_in_phase : (object : ℕ) (phase : Phase) → waits_in object phase ≡ true → is_waiting_phase phase ≡ true
 waits_in_phase object Dormant there = absurd (cc there)

@@ -4,10 +4,10 @@ use Rattle.std.specs.Option.{is_some}
 use Rattle.std.specs.Prelude.{unwrap_or}
 use Rattle.kernel_model.specs.declared.objects.Semaphore.{Semaphore}
 use Rattle.kernel_model.specs.declared.objects.EventFlag.{EventFlag}
-use Rattle.kernel_model.specs.Orders.{entry}
-use Rattle.kernel_model.specs.Base.{Base}
-use Rattle.kernel_model.specs.Priority.{taken_from}
-use Rattle.kernel_model.specs.SemFlags.{SemFlags, SemFlagParts, first_served, flag_at, or_else, sem_at, serve_flag, serve_flag_at, serve_sem, serve_sem_at}
+use Rattle.kernel_model.specs.Words.Orders.{entry}
+use Rattle.kernel_model.specs.Tasks.Base.{Base}
+use Rattle.kernel_model.specs.Words.Orders.{taken_from}
+use Rattle.kernel_model.specs.SemFlags.Tables.{SemFlags, SemFlagParts, first_served, flag_at, or_else, sem_at, serve_flag, serve_flag_at, serve_sem, serve_sem_at}
 use Rattle.sem_flag.specs.Tables.{AreFreeFrom}
 
 -- ---- one ID

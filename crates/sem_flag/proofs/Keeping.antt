@@ -12,12 +12,12 @@ use Rattle.tk_types.specs.declared.calls.SemFlagCall.TheVariants as call
 use Rattle.kernel_model.specs.declared.objects.Semaphore.{Semaphore}
 use Rattle.kernel_model.specs.declared.objects.EventFlag.{EventFlag}
 use Rattle.kernel_model.specs.declared.objects.FlagWish.{FlagWish}
-use Rattle.kernel_model.specs.Checks.{first_error, natural, plain}
-use Rattle.kernel_model.specs.Base.{Base, is_waiting_phase, make_wait, queue, release, task_at}
-use Rattle.kernel_model.specs.TaskCalls.{caller}
-use Rattle.kernel_model.specs.SemFlags.{SemFlags, flag_at, has_bits, sem_at}
-use Rattle.kernel_model.specs.SemFlagCalls.{SemFlagDone, clear_flag, create_flag, create_sem, delete_flag, delete_sem, end_first, first_ended, flag_waits_ended, refer_flag, refer_sem, refused_with, sem_flag_call, sem_waits_ended, serves_at_once, set_flag, signal_sem, wait_flag, wait_flag_checks, wait_sem, wait_sem_checks, waited_for_flag, waited_for_sem, waits_or_ends}
-use Rattle.kernel_model.proofs.Tables.{entry_cases}
+use Rattle.kernel_model.specs.Words.Checks.{first_error, natural, plain}
+use Rattle.kernel_model.specs.Tasks.Base.{Base, is_waiting_phase, make_wait, queue, release, task_at}
+use Rattle.kernel_model.specs.Tasks.Calls.{caller}
+use Rattle.kernel_model.specs.SemFlags.Tables.{SemFlags, flag_at, has_bits, sem_at}
+use Rattle.kernel_model.specs.SemFlags.Calls.{SemFlagDone, clear_flag, create_flag, create_sem, delete_flag, delete_sem, end_first, first_ended, flag_waits_ended, refer_flag, refer_sem, refused_with, sem_flag_call, sem_waits_ended, serves_at_once, set_flag, signal_sem, wait_flag, wait_flag_checks, wait_sem, wait_sem_checks, waited_for_flag, waited_for_sem, waits_or_ends}
+use Rattle.kernel_lemmas.proofs.Tables.{entry_cases}
 use Rattle.sem_flag.proofs.Waiting.{wish}
 
 -- one event more at most, and the same time

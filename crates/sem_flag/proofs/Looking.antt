@@ -4,8 +4,8 @@ use Rattle.std.specs.Bool.{◌==◌}
 use Rattle.std.specs.Option.{is_some}
 use Rattle.std.proofs.lemmas.Bool.Decides.{nat_tests}
 use Rattle.tk_types.specs.declared.task.Task.{Task}
-use Rattle.kernel_model.specs.Orders.{entry}
-use Rattle.kernel_model.specs.Base.{waiting_in}
+use Rattle.kernel_model.specs.Words.Orders.{entry}
+use Rattle.kernel_model.specs.Tasks.Base.{waiting_in}
 
 next_if : (P : ℕ → Type 0) (n t : ℕ) (same : Bool) → (n == t) ≡ same → ((u : ℕ) → u < n → P u) → P n → t < n + 1 → P t
 next_if P n t true is all one below = let itself : n ≡ t = grind (arith, nat_tests, is) in subst P itself one

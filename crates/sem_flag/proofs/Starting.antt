@@ -1,8 +1,8 @@
 -- At the start there is no semaphore and no event flag, and so none whose waiters could queue otherwise.
 use Rattle.std.proofs.Common.{◌≡◌, ℕ, zero, suc, None, refl, replicate, ap}
-use Rattle.kernel_model.specs.Orders.{entry}
-use Rattle.kernel_model.specs.Base.{Base}
-use Rattle.kernel_model.specs.SemFlags.{SemFlags, sem_flags_start}
+use Rattle.kernel_model.specs.Words.Orders.{entry}
+use Rattle.kernel_model.specs.Tasks.Base.{Base}
+use Rattle.kernel_model.specs.SemFlags.Tables.{SemFlags, sem_flags_start}
 use Rattle.sem_flag.specs.Parts.{AreQueued}
 
 none_in : {A : Type 0} (n id : ℕ) → entry {A = A} (replicate n None) id ≡ None

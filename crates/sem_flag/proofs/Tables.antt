@@ -5,9 +5,9 @@ use Rattle.std.proofs.Math.Nat.{le-max_left, le-max_right}
 use Rattle.kernel_model.specs.declared.objects.Semaphore.{Semaphore}
 use Rattle.kernel_model.specs.declared.objects.EventFlag.{EventFlag}
 use Rattle.kernel_model.specs.declared.objects.FlagWish.{FlagWish}
-use Rattle.kernel_model.specs.Orders.{entry}
-use Rattle.kernel_model.specs.SemFlags.{no_wish}
-use Rattle.kernel_model.proofs.Tables.{entry_other}
+use Rattle.kernel_model.specs.Words.Orders.{entry}
+use Rattle.kernel_model.specs.SemFlags.Tables.{no_wish}
+use Rattle.kernel_lemmas.proofs.Tables.{entry_other}
 use Rattle.sem_flag.specs.Tables.{AreFreeFrom, AreTables}
 
 nothing : {A : Type 0} (n id : ℕ) → entry (replicate {A = Option A} n None) id ≡ None

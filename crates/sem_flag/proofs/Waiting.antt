@@ -8,12 +8,12 @@ use Rattle.tk_types.specs.declared.modes.FlagMode.{FlagMode}
 use Rattle.kernel_model.specs.declared.marks.Mark.TheVariants.{MayWait}
 use Rattle.kernel_model.specs.declared.objects.EventFlag.{EventFlag}
 use Rattle.kernel_model.specs.declared.objects.FlagWish.{FlagWish}
-use Rattle.kernel_model.specs.Checks.{natural, within}
-use Rattle.kernel_model.specs.Base.{Base}
-use Rattle.kernel_model.specs.Marks.{allows}
-use Rattle.kernel_model.specs.TaskCalls.{caller}
-use Rattle.kernel_model.specs.SemFlags.{SemFlags, flag_at}
-use Rattle.kernel_model.specs.SemFlagCalls.{is_mode, may_join, wait_flag, waited_for_flag}
+use Rattle.kernel_model.specs.Words.Checks.{natural, within}
+use Rattle.kernel_model.specs.Tasks.Base.{Base}
+use Rattle.kernel_model.specs.Tasks.Marks.{allows}
+use Rattle.kernel_model.specs.Tasks.Calls.{caller}
+use Rattle.kernel_model.specs.SemFlags.Tables.{SemFlags, flag_at}
+use Rattle.kernel_model.specs.SemFlags.Calls.{is_mode, may_join, wait_flag, waited_for_flag}
 
 named_if : (test : Bool) (n at : ℕ) → cond test (Some n) None ≡ Some at → (test ≡ true) × (n ≡ at)
 named_if true n at is = (refl, cc is)

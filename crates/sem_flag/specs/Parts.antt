@@ -2,9 +2,9 @@
 use Rattle.std.specs.Prelude.{ℕ, ◌≡◌, ◌≤◌, ◌-◌, nat_le, nat_lt, ◌&&◌, if◌then◌else◌, Option, Some, None}
 use Rattle.kernel_model.specs.declared.objects.Semaphore.{Semaphore}
 use Rattle.kernel_model.specs.declared.objects.EventFlag.{EventFlag}
-use Rattle.kernel_model.specs.Base.{Base}
-use Rattle.kernel_model.specs.Queues.{AreOfOrder}
-use Rattle.kernel_model.specs.SemFlags.{SemFlags, SemFlagParts, sem_at, flag_at, sem_object, flag_object, serve_sem, serve_flag}
+use Rattle.kernel_model.specs.Tasks.Base.{Base}
+use Rattle.kernel_model.specs.Tasks.Queues.{AreOfOrder}
+use Rattle.kernel_model.specs.SemFlags.Tables.{SemFlags, SemFlagParts, sem_at, flag_at, sem_object, flag_object, serve_sem, serve_flag}
 
 abbrev pub parts_of : Base → SemFlags → SemFlagParts
 parts_of b s = record { base = b; table = s }

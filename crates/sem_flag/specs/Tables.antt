@@ -3,7 +3,7 @@ use Rattle.std.specs.Prelude.{ℕ, ◌≡◌, ◌≤◌, List, Option, None, len
 use Rattle.kernel_model.specs.declared.objects.Semaphore.{Semaphore}
 use Rattle.kernel_model.specs.declared.objects.EventFlag.{EventFlag}
 use Rattle.kernel_model.specs.declared.objects.FlagWish.{FlagWish}
-use Rattle.kernel_model.specs.Orders.{entry}
+use Rattle.kernel_model.specs.Words.Orders.{entry}
 
 -- every slot from a place on is free
 pub record AreFreeFrom {A : Type 0} (used : ℕ) (slots : List (Option A)) : Type 0 where

@@ -1,8 +1,8 @@
 //! Attributes and modes.
 
 ghost use Rattle.std.specs.Prelude.{◌≡◌, ◌≤◌, IfSome, Some, None, if◌then◌else◌};
-ghost use Rattle.kernel_model.specs.Checks.{natural, within};
-ghost use Rattle.kernel_model.specs.SemFlagCalls.{has_flag_attributes, has_sem_attributes, is_mode, order_of};
+ghost use Rattle.kernel_model.specs.Words.Checks.{natural, within};
+ghost use Rattle.kernel_model.specs.SemFlags.Calls.{has_flag_attributes, has_sem_attributes, is_mode, order_of};
 
 use kernel_base::Order;
 use tk_types::{Attributes, FlagMode};

@@ -1,7 +1,7 @@
 //! The calls on semaphores and event flags.
 
 ghost use Rattle.std.specs.Prelude.{◌≡◌, ◌<◌, ◌^◌};
-ghost use Rattle.kernel_model.specs.SemFlagCalls.{sem_flag_call};
+ghost use Rattle.kernel_model.specs.SemFlags.Calls.{sem_flag_call};
 ghost use Rattle.sem_flag.specs.Parts.{AreQueued};
 
 use crate::table::SemFlags;
@@ -11,7 +11,7 @@ use tk_types::{Outcome, SemFlagCall, Who};
 
 /// A call on semaphores or event flags, by its row of the table of calls: the error of the first check that fails, with
 /// nothing changed, or its effect up to the first settling. It takes no memory.
-#[tactic(auto, unfolding(kernel_model::specs::SemFlagCalls::sem_flag_call))]
+#[tactic(auto, unfolding(kernel_model::specs::SemFlags::Calls::sem_flag_call))]
 pub fn call(base: &mut Base, table: &mut SemFlags, who: Who, call: &SemFlagCall) -> Outcome
     requires few { base.old.made < 2 ^ 63 }
     requires early { base.old.time < 2 ^ 63 }

@@ -1,8 +1,8 @@
 //! Semaphores and event flags are deleted.
 
 ghost use Rattle.std.specs.Prelude.{◌≡◌, ◌<◌};
-ghost use Rattle.kernel_model.specs.Queues.{AreOfOrder};
-ghost use Rattle.kernel_model.specs.SemFlagCalls.{delete_flag, delete_sem, end_waits};
+ghost use Rattle.kernel_model.specs.Tasks.Queues.{AreOfOrder};
+ghost use Rattle.kernel_model.specs.SemFlags.Calls.{delete_flag, delete_sem, end_waits};
 ghost use Rattle.sem_flag.specs.Parts.{AreQueued};
 
 use crate::attributes::object_id;
@@ -28,7 +28,7 @@ fn end_waits(base: &mut Base, order: Order, obj: u32)
 }
 
 /// `tk_del_sem`: the semaphore is gone, and its waiters' waits end.
-#[tactic(auto, unfolding(kernel_model::specs::SemFlagCalls::delete_sem))]
+#[tactic(auto, unfolding(kernel_model::specs::SemFlags::Calls::delete_sem))]
 pub(crate) fn delete_sem(base: &mut Base, table: &mut SemFlags, id: i32) -> Outcome
     requires queued { AreQueued base.old table.old }
     ensures { delete_sem base.old table.old id ≡ record { base = base.new; table = table.new; outcome = result } }
@@ -45,7 +45,7 @@ pub(crate) fn delete_sem(base: &mut Base, table: &mut SemFlags, id: i32) -> Outc
 }
 
 /// `tk_del_flg`: the event flag is gone, and its waiters' waits end.
-#[tactic(auto, unfolding(kernel_model::specs::SemFlagCalls::delete_flag))]
+#[tactic(auto, unfolding(kernel_model::specs::SemFlags::Calls::delete_flag))]
 pub(crate) fn delete_flag(base: &mut Base, table: &mut SemFlags, id: i32) -> Outcome
     requires queued { AreQueued base.old table.old }
     ensures { delete_flag base.old table.old id ≡ record { base = base.new; table = table.new; outcome = result } }

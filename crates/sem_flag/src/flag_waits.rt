@@ -1,8 +1,8 @@
 //! Waits for event flags.
 
 ghost use Rattle.std.specs.Prelude.{◌≡◌, ◌<◌, ◌≤◌, ◌^◌, Some};
-ghost use Rattle.kernel_model.specs.SemFlagCalls.{may_join, wait_flag, waited_for_flag};
-ghost use Rattle.kernel_model.specs.SemFlags.{flag_at};
+ghost use Rattle.kernel_model.specs.SemFlags.Calls.{may_join, wait_flag, waited_for_flag};
+ghost use Rattle.kernel_model.specs.SemFlags.Tables.{flag_at};
 ghost use Rattle.sem_flag.specs.Parts.{AreQueued};
 
 use crate::attributes::{is_mode, object_id};
@@ -56,7 +56,7 @@ fn answer_or_wait(
 }
 
 /// `tk_wai_flg`: answers the pattern once it has the bits, or waits.
-#[tactic(auto, unfolding(kernel_model::specs::SemFlagCalls::wait_flag))]
+#[tactic(auto, unfolding(kernel_model::specs::SemFlags::Calls::wait_flag))]
 pub(crate) fn wait_flag(
     base: &mut Base,
     table: &mut SemFlags,

@@ -2,8 +2,8 @@
 
 ghost use Rattle.std.specs.Prelude.{◌≡◌, ◌∷◌, [], pos};
 ghost use Rattle.std.specs.Int.{w32, cast_signed};
-ghost use Rattle.kernel_model.specs.Checks.{answer};
-ghost use Rattle.kernel_model.specs.SemFlagCalls.{clear_flag, create_flag, refer_flag, set_flag};
+ghost use Rattle.kernel_model.specs.Words.Checks.{answer};
+ghost use Rattle.kernel_model.specs.SemFlags.Calls.{clear_flag, create_flag, refer_flag, set_flag};
 ghost use Rattle.sem_flag.specs.Parts.{AreQueued};
 
 use crate::attributes::{has_flag_attributes, object_id, order_of};
@@ -15,7 +15,7 @@ use kernel_model::objects::EventFlag;
 use tk_types::{Answer, Attributes, Er, Outcome};
 
 /// `tk_cre_flg`: an event flag with the least free ID.
-#[tactic(auto, unfolding(kernel_model::specs::SemFlagCalls::create_flag))]
+#[tactic(auto, unfolding(kernel_model::specs::SemFlags::Calls::create_flag))]
 pub(crate) fn create_flag(
     base: &Base,
     table: &mut SemFlags,
@@ -43,7 +43,7 @@ pub(crate) fn create_flag(
 }
 
 /// `tk_set_flg`: sets bits.
-#[tactic(auto, unfolding(kernel_model::specs::SemFlagCalls::set_flag))]
+#[tactic(auto, unfolding(kernel_model::specs::SemFlags::Calls::set_flag))]
 pub(crate) fn set_flag(base: &Base, table: &mut SemFlags, id: i32, pattern: i32) -> Outcome
     ensures { set_flag base.now table.old id pattern ≡ record { base = base.now; table = table.new; outcome = result } }
 {
@@ -64,7 +64,7 @@ pub(crate) fn set_flag(base: &Base, table: &mut SemFlags, id: i32, pattern: i32)
 }
 
 /// `tk_clr_flg`: keeps only these bits.
-#[tactic(auto, unfolding(kernel_model::specs::SemFlagCalls::clear_flag))]
+#[tactic(auto, unfolding(kernel_model::specs::SemFlags::Calls::clear_flag))]
 pub(crate) fn clear_flag(base: &Base, table: &mut SemFlags, id: i32, pattern: i32) -> Outcome
     ensures { clear_flag base.now table.old id pattern ≡ record { base = base.now; table = table.new; outcome = result } }
 {
@@ -96,7 +96,7 @@ fn shown(pattern: u32, first: u8) -> Answer
 }
 
 /// `tk_ref_flg`: the pattern, and the first waiter or 0.
-#[tactic(auto, unfolding(kernel_model::specs::SemFlagCalls::refer_flag))]
+#[tactic(auto, unfolding(kernel_model::specs::SemFlags::Calls::refer_flag))]
 pub(crate) fn refer_flag(base: &Base, table: &SemFlags, id: i32) -> Outcome
     requires queued { AreQueued base.now table.now }
     ensures { refer_flag base.now table.now id ≡ record { base = base.now; table = table.now; outcome = result } }

@@ -1,10 +1,10 @@
 //! Waits for semaphores.
 
 ghost use Rattle.std.specs.Prelude.{◌≡◌, ◌<◌, ◌≤◌, ◌^◌, Some};
-ghost use Rattle.kernel_model.specs.Base.{queue};
-ghost use Rattle.kernel_model.specs.Queues.{AreOfOrder};
-ghost use Rattle.kernel_model.specs.SemFlagCalls.{serves_at_once, wait_sem, would_be_first};
-ghost use Rattle.kernel_model.specs.SemFlags.{sem_at};
+ghost use Rattle.kernel_model.specs.Tasks.Base.{queue};
+ghost use Rattle.kernel_model.specs.Tasks.Queues.{AreOfOrder};
+ghost use Rattle.kernel_model.specs.SemFlags.Calls.{serves_at_once, wait_sem, would_be_first};
+ghost use Rattle.kernel_model.specs.SemFlags.Tables.{sem_at};
 ghost use Rattle.sem_flag.specs.Parts.{AreQueued};
 
 use crate::attributes::object_id;
@@ -51,7 +51,7 @@ fn serves_at_once(
 }
 
 /// `tk_wai_sem`: takes from the count, or waits.
-#[tactic(auto, unfolding(kernel_model::specs::SemFlagCalls::wait_sem))]
+#[tactic(auto, unfolding(kernel_model::specs::SemFlags::Calls::wait_sem))]
 pub(crate) fn wait_sem(
     base: &mut Base,
     table: &mut SemFlags,

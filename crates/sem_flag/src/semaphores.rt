@@ -1,8 +1,8 @@
 //! Calls on semaphores that don't wait.
 
 ghost use Rattle.std.specs.Prelude.{◌≡◌, ◌∷◌, [], pos};
-ghost use Rattle.kernel_model.specs.Checks.{answer};
-ghost use Rattle.kernel_model.specs.SemFlagCalls.{create_sem, refer_sem, signal_sem};
+ghost use Rattle.kernel_model.specs.Words.Checks.{answer};
+ghost use Rattle.kernel_model.specs.SemFlags.Calls.{create_sem, refer_sem, signal_sem};
 ghost use Rattle.sem_flag.specs.Parts.{AreQueued};
 
 use crate::attributes::{has_sem_attributes, object_id, order_of};
@@ -14,7 +14,7 @@ use kernel_model::objects::Semaphore;
 use tk_types::{Answer, Attributes, Er, Outcome};
 
 /// `tk_cre_sem`: a semaphore with the least free ID.
-#[tactic(auto, unfolding(kernel_model::specs::SemFlagCalls::create_sem))]
+#[tactic(auto, unfolding(kernel_model::specs::SemFlags::Calls::create_sem))]
 pub(crate) fn create_sem(
     base: &Base,
     table: &mut SemFlags,
@@ -50,7 +50,7 @@ pub(crate) fn create_sem(
 }
 
 /// `tk_sig_sem`: adds to the count.
-#[tactic(auto, unfolding(kernel_model::specs::SemFlagCalls::signal_sem))]
+#[tactic(auto, unfolding(kernel_model::specs::SemFlags::Calls::signal_sem))]
 pub(crate) fn signal_sem(base: &Base, table: &mut SemFlags, id: i32, count: i32) -> Outcome
     ensures { signal_sem base.now table.old id count ≡ record { base = base.now; table = table.new; outcome = result } }
 {
@@ -88,7 +88,7 @@ fn shown(count: u16, first: u8) -> Answer
 }
 
 /// `tk_ref_sem`: the count, and the first waiter or 0.
-#[tactic(auto, unfolding(kernel_model::specs::SemFlagCalls::refer_sem))]
+#[tactic(auto, unfolding(kernel_model::specs::SemFlags::Calls::refer_sem))]
 pub(crate) fn refer_sem(base: &Base, table: &SemFlags, id: i32) -> Outcome
     requires queued { AreQueued base.now table.now }
     ensures { refer_sem base.now table.now id ≡ record { base = base.now; table = table.now; outcome = result } }

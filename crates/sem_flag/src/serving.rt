@@ -3,10 +3,10 @@
 ghost use Rattle.std.specs.Prelude.{◌≡◌, ◌<◌, ◌≤◌, Some, drop, unwrap_or};
 ghost use Rattle.std.specs.List.{find};
 ghost use Rattle.std.specs.Option.{is_some};
-ghost use Rattle.kernel_model.specs.Base.{queue};
-ghost use Rattle.kernel_model.specs.Priority.{taken_from};
-ghost use Rattle.kernel_model.specs.Queues.{AreOfOrder};
-ghost use Rattle.kernel_model.specs.SemFlags.{cleared_by, cleared_flag, first_if, first_served, flag_answer, has_bits, is_fulfilled, is_there, sem_pick, serve_flag, serve_sem, serve_sem_flag, taken_from_sem};
+ghost use Rattle.kernel_model.specs.Tasks.Base.{queue};
+ghost use Rattle.kernel_model.specs.Words.Orders.{taken_from};
+ghost use Rattle.kernel_model.specs.Tasks.Queues.{AreOfOrder};
+ghost use Rattle.kernel_model.specs.SemFlags.Tables.{cleared_by, cleared_flag, first_if, first_served, flag_answer, has_bits, is_fulfilled, is_there, sem_pick, serve_flag, serve_sem, serve_sem_flag, taken_from_sem};
 ghost use Rattle.sem_flag.specs.Parts.{AreQueued, parts_of, serve_object};
 
 use crate::table::SemFlags;
@@ -155,7 +155,7 @@ fn find_fulfilled(base: &Base, table: &SemFlags, row: EventFlag, obj: u32) -> Op
 }
 
 /// Serves one waiter of a semaphore, where one can be served.
-#[tactic(auto, unfolding(kernel_model::specs::SemFlags::serve_sem))]
+#[tactic(auto, unfolding(kernel_model::specs::SemFlags::Tables::serve_sem))]
 fn serve_sem(base: &mut Base, table: &mut SemFlags, id: u8) -> bool
     requires low { 1 ≤ id }
     requires high { id ≤ 64 }
@@ -176,7 +176,7 @@ fn serve_sem(base: &mut Base, table: &mut SemFlags, id: u8) -> bool
 }
 
 /// Serves one waiter of an event flag, where one can be served.
-#[tactic(auto, unfolding(kernel_model::specs::SemFlags::serve_flag))]
+#[tactic(auto, unfolding(kernel_model::specs::SemFlags::Tables::serve_flag))]
 fn serve_flag(base: &mut Base, table: &mut SemFlags, id: u8) -> bool
     requires low { 1 ≤ id }
     requires high { id ≤ 64 }
@@ -244,7 +244,7 @@ fn serve_first_flag(base: &mut Base, table: &mut SemFlags) -> bool
 
 /// Serves one waiter at the first object that can serve one: semaphores by rising ID, then event flags. False, with
 /// nothing changed, comes exactly where no object can serve one.
-#[tactic(auto, unfolding(kernel_model::specs::SemFlags::serve_sem_flag))]
+#[tactic(auto, unfolding(kernel_model::specs::SemFlags::Tables::serve_sem_flag))]
 pub fn serve_first(base: &mut Base, table: &mut SemFlags) -> bool
     requires queued { AreQueued base.old table.old }
     ensures served { result ≡ is_some (serve_sem_flag base.old table.old) }

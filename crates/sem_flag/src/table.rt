@@ -2,9 +2,9 @@
 
 ghost use Rattle.std.specs.Prelude.{◌≡◌, ◌<◌, ◌≤◌, IfOk, None, drop, length, replicate, slice_set};
 ghost use Rattle.std.specs.Option.{is_some};
-ghost use Rattle.kernel_model.specs.Orders.{free_from};
-ghost use Rattle.kernel_model.specs.SemFlagCalls.{free_flag, free_sem};
-ghost use Rattle.kernel_model.specs.SemFlags.{count_of, flag_at, no_wish, sem_at, sem_flags_start, wish_of, with_flag, with_sem};
+ghost use Rattle.kernel_model.specs.Words.Orders.{free_from};
+ghost use Rattle.kernel_model.specs.SemFlags.Calls.{free_flag, free_sem};
+ghost use Rattle.kernel_model.specs.SemFlags.Tables.{count_of, flag_at, no_wish, sem_at, sem_flags_start, wish_of, with_flag, with_sem};
 ghost use Rattle.sem_flag.specs.Tables.{AreFreeFrom};
 
 use kernel_model::objects::{EventFlag, FlagWish, Semaphore};
@@ -26,7 +26,7 @@ pub struct SemFlags {
 }
 
 impl Model for SemFlags {
-    ghost use Rattle.kernel_model.specs.SemFlags.{SemFlags as SemFlagsView};
+    ghost use Rattle.kernel_model.specs.SemFlags.Tables.{SemFlags as SemFlagsView};
     ghost use Rattle.sem_flag.specs.Tables.{AreTables};
 
     ghost Value = { SemFlagsView };
@@ -239,7 +239,7 @@ impl SemFlags {
 }
 
 /// The least free ID of a table of semaphores, or 0.
-#[tactic(auto, unfolding(kernel_model::specs::Orders::free_from))]
+#[tactic(auto, unfolding(kernel_model::specs::Words::Orders::free_from))]
 fn least_free_sem(slots: &[Option<Semaphore>]) -> u8
     requires { length slots.now ≡ 65 }
     ensures free { result ≡ free_from 1 (drop 1 slots.now) }
@@ -254,7 +254,7 @@ fn least_free_sem(slots: &[Option<Semaphore>]) -> u8
 }
 
 /// The least free ID of a table of event flags, or 0.
-#[tactic(auto, unfolding(kernel_model::specs::Orders::free_from))]
+#[tactic(auto, unfolding(kernel_model::specs::Words::Orders::free_from))]
 fn least_free_flag(slots: &[Option<EventFlag>]) -> u8
     requires { length slots.now ≡ 65 }
     ensures free { result ≡ free_from 1 (drop 1 slots.now) }

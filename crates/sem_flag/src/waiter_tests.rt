@@ -3,9 +3,9 @@
 ghost use Rattle.std.specs.Prelude.{◌≡◌, ◌≤◌, Some, length, true};
 ghost use Rattle.kernel_model.specs.declared.objects.EventFlag.{EventFlag};
 ghost use Rattle.kernel_model.specs.declared.objects.Semaphore.{Semaphore};
-ghost use Rattle.kernel_model.specs.Base.{task_at, waits_for};
-ghost use Rattle.kernel_model.specs.Queues.{AreOfOrder, queue_in};
-ghost use Rattle.kernel_model.specs.SemFlags.{flag_at, flag_object, sem_at, sem_object};
+ghost use Rattle.kernel_model.specs.Tasks.Base.{task_at, waits_for};
+ghost use Rattle.kernel_model.specs.Tasks.Queues.{AreOfOrder, queue_in};
+ghost use Rattle.kernel_model.specs.SemFlags.Tables.{flag_at, flag_object, sem_at, sem_object};
 ghost use Rattle.sem_flag.specs.Parts.{AreQueued};
 
 use super::*;

@@ -1,9 +1,9 @@
 //! Calls that ask and change nothing.
 
 ghost use Rattle.std.specs.Prelude.{◌≡◌, ◌∷◌, [], pos};
-ghost use Rattle.kernel_model.specs.Checks.{answer};
-ghost use Rattle.kernel_model.specs.TaskCalls.{get_task, refer_task, shown};
-ghost use Rattle.kernel_model.specs.Views.{state_in};
+ghost use Rattle.kernel_model.specs.Words.Checks.{answer};
+ghost use Rattle.kernel_model.specs.Tasks.Calls.{get_task, refer_task, shown};
+ghost use Rattle.kernel_model.specs.Tasks.Views.{state_in};
 
 use crate::names::named_task;
 use kernel_base::Base;
@@ -11,7 +11,7 @@ use kernel_base::answers::{done, failed};
 use tk_types::{Answer, Er, Outcome, Task, Who};
 
 /// `tk_get_tid`: the current task, or 0.
-#[tactic(auto, unfolding(kernel_model::specs::TaskCalls::get_task))]
+#[tactic(auto, unfolding(kernel_model::specs::Tasks::Calls::get_task))]
 pub(crate) fn get_task(base: &Base) -> Outcome
     ensures { get_task base.now ≡ record { base = base.now; outcome = result } }
 {
@@ -36,7 +36,7 @@ fn shown(state: u8, row: Task) -> Answer
 }
 
 /// `tk_ref_tsk`: what a task shows.
-#[tactic(auto, unfolding(kernel_model::specs::TaskCalls::refer_task))]
+#[tactic(auto, unfolding(kernel_model::specs::Tasks::Calls::refer_task))]
 pub(crate) fn refer_task(base: &Base, who: Who, task: i32) -> Outcome
     ensures { refer_task base.now who task ≡ record { base = base.now; outcome = result } }
 {

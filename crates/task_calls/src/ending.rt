@@ -1,7 +1,7 @@
 //! Tasks end.
 
 ghost use Rattle.std.specs.Prelude.{◌≡◌};
-ghost use Rattle.kernel_model.specs.TaskCalls.{enabled, enabled_after, exit_task, terminate_task};
+ghost use Rattle.kernel_model.specs.Tasks.Calls.{enabled, enabled_after, exit_task, terminate_task};
 
 use crate::names::task_id;
 use kernel_base::answers::{caller, done, failed};
@@ -35,7 +35,7 @@ fn enable_after(base: &mut Base, ran: bool)
 
 /// `tk_ext_tsk` and `tk_exd_tsk`: the caller becomes DORMANT. What `tk_exd_tsk` deletes is gone once the task's mutexes
 /// are free.
-#[tactic(auto, unfolding(kernel_model::specs::TaskCalls::exit_task))]
+#[tactic(auto, unfolding(kernel_model::specs::Tasks::Calls::exit_task))]
 pub(crate) fn exit_task(base: &mut Base, who: Who) -> Outcome
     ensures { exit_task base.old who ≡ record { base = base.new; outcome = result } }
 {
@@ -45,7 +45,7 @@ pub(crate) fn exit_task(base: &mut Base, who: Who) -> Outcome
 }
 
 /// `tk_ter_tsk`: another task becomes DORMANT.
-#[tactic(auto, unfolding(kernel_model::specs::TaskCalls::terminate_task))]
+#[tactic(auto, unfolding(kernel_model::specs::Tasks::Calls::terminate_task))]
 pub(crate) fn terminate_task(base: &mut Base, who: Who, task: i32) -> Outcome
     ensures { terminate_task base.old who task ≡ record { base = base.new; outcome = result } }
 {

@@ -14,16 +14,16 @@ mod tests;
 mod waking;
 
 ghost use Rattle.std.specs.Prelude.{◌≡◌, ◌<◌, ◌^◌};
-ghost use Rattle.kernel_model.specs.Queues.{AreOfOrder};
+ghost use Rattle.kernel_model.specs.Tasks.Queues.{AreOfOrder};
 ghost use Rattle.tk_types.specs.declared.task.Order.TheVariants.{Fifo};
-ghost use Rattle.kernel_model.specs.TaskCalls.{task_call};
+ghost use Rattle.kernel_model.specs.Tasks.Calls.{task_call};
 
 use kernel_base::Base;
 use tk_types::{Outcome, TaskCall, Who};
 
 /// A call on tasks, by its row of the table of calls: the error of the first check that fails, with nothing changed,
 /// or its effect. It takes no memory. The tasks that sleep, and those in a delay, queue by the beginning of their waits.
-#[tactic(auto, unfolding(kernel_model::specs::TaskCalls::task_call))]
+#[tactic(auto, unfolding(kernel_model::specs::Tasks::Calls::task_call))]
 pub fn call(base: &mut Base, who: Who, call: &TaskCall) -> Outcome
     requires few { base.old.made < 2 ^ 63 }
     requires early { base.old.time < 2 ^ 63 }

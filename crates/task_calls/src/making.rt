@@ -1,7 +1,7 @@
 //! Tasks are made, deleted and started.
 
 ghost use Rattle.std.specs.Prelude.{◌≡◌};
-ghost use Rattle.kernel_model.specs.TaskCalls.{create_task, delete_task, has_only_free, start_task};
+ghost use Rattle.kernel_model.specs.Tasks.Calls.{create_task, delete_task, has_only_free, start_task};
 
 use crate::names::task_id;
 use kernel_base::Base;
@@ -27,7 +27,7 @@ fn has_only_free(attributes: Attributes) -> bool
 }
 
 /// `tk_cre_tsk`: a DORMANT task with the least free ID.
-#[tactic(auto, unfolding(kernel_model::specs::TaskCalls::create_task))]
+#[tactic(auto, unfolding(kernel_model::specs::Tasks::Calls::create_task))]
 pub(crate) fn create_task(
     base: &mut Base,
     attributes: Attributes,
@@ -57,7 +57,7 @@ pub(crate) fn create_task(
 }
 
 /// `tk_del_tsk`: a DORMANT task is deleted.
-#[tactic(auto, unfolding(kernel_model::specs::TaskCalls::delete_task))]
+#[tactic(auto, unfolding(kernel_model::specs::Tasks::Calls::delete_task))]
 pub(crate) fn delete_task(base: &mut Base, task: i32) -> Outcome
     ensures { delete_task base.old task ≡ record { base = base.new; outcome = result } }
 {
@@ -75,7 +75,7 @@ pub(crate) fn delete_task(base: &mut Base, task: i32) -> Outcome
 }
 
 /// `tk_sta_tsk`: a DORMANT task becomes READY.
-#[tactic(auto, unfolding(kernel_model::specs::TaskCalls::start_task))]
+#[tactic(auto, unfolding(kernel_model::specs::Tasks::Calls::start_task))]
 pub(crate) fn start_task(base: &mut Base, task: i32, code: i32) -> Outcome
     ensures { start_task base.old task code ≡ record { base = base.new; outcome = result } }
 {

@@ -1,9 +1,9 @@
 //! Numbers that name tasks.
 
 ghost use Rattle.std.specs.Prelude.{◌≡◌, Some, None, if◌then◌else◌};
-ghost use Rattle.kernel_model.specs.Checks.{natural, within};
-ghost use Rattle.kernel_model.specs.Marks.{is_task};
-ghost use Rattle.kernel_model.specs.TaskCalls.{named, names_task};
+ghost use Rattle.kernel_model.specs.Words.Checks.{natural, within};
+ghost use Rattle.kernel_model.specs.Tasks.Marks.{is_task};
+ghost use Rattle.kernel_model.specs.Tasks.Calls.{named, names_task};
 
 use kernel_base::answers::caller;
 use tk_types::Who;

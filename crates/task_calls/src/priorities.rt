@@ -2,8 +2,8 @@
 
 ghost use Rattle.std.specs.Prelude.{◌≡◌, ◌≤◌, ◌≤ℤ◌, pos, true};
 ghost use Rattle.std.specs.Option.{is_some};
-ghost use Rattle.kernel_model.specs.Base.{task_at};
-ghost use Rattle.kernel_model.specs.TaskCalls.{change_priority, new_base, rebased, rotate_ready, rotated_priority};
+ghost use Rattle.kernel_model.specs.Tasks.Base.{task_at};
+ghost use Rattle.kernel_model.specs.Tasks.Calls.{change_priority, new_base, rebased, rotate_ready, rotated_priority};
 
 use crate::names::named_task;
 use kernel_base::Base;
@@ -40,7 +40,7 @@ fn rebase(base: &mut Base, task: u8, priority: u8)
 }
 
 /// `tk_chg_pri`: a task's base priority changes.
-#[tactic(auto, unfolding(kernel_model::specs::TaskCalls::change_priority))]
+#[tactic(auto, unfolding(kernel_model::specs::Tasks::Calls::change_priority))]
 pub(crate) fn change_priority(base: &mut Base, who: Who, task: i32, priority: i32) -> Outcome
     ensures { change_priority base.old who task priority ≡ record { base = base.new; outcome = result } }
 {
@@ -71,7 +71,7 @@ fn rotated_priority(base: &Base, priority: i32) -> u8
 }
 
 /// `tk_rot_rdq`: the first ready task of a priority becomes the last of it.
-#[tactic(auto, unfolding(kernel_model::specs::TaskCalls::rotate_ready))]
+#[tactic(auto, unfolding(kernel_model::specs::Tasks::Calls::rotate_ready))]
 pub(crate) fn rotate_ready(base: &mut Base, priority: i32) -> Outcome
     ensures { rotate_ready base.old priority ≡ record { base = base.new; outcome = result } }
 {

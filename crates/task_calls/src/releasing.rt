@@ -1,7 +1,7 @@
 //! Waits are ended from outside.
 
 ghost use Rattle.std.specs.Prelude.{◌≡◌};
-ghost use Rattle.kernel_model.specs.TaskCalls.{release_wait};
+ghost use Rattle.kernel_model.specs.Tasks.Calls.{release_wait};
 
 use crate::names::task_id;
 use kernel_base::Base;
@@ -9,7 +9,7 @@ use kernel_base::answers::{done, failed, plain};
 use tk_types::{Er, Outcome};
 
 /// `tk_rel_wai`: the wait of a task ends with E_RLWAI.
-#[tactic(auto, unfolding(kernel_model::specs::TaskCalls::release_wait))]
+#[tactic(auto, unfolding(kernel_model::specs::Tasks::Calls::release_wait))]
 pub(crate) fn release_wait(base: &mut Base, task: i32) -> Outcome
     ensures { release_wait base.old task ≡ record { base = base.new; outcome = result } }
 {

@@ -1,9 +1,9 @@
 //! Sleep and delay.
 
 ghost use Rattle.std.specs.Prelude.{◌≡◌, ◌<◌, ◌^◌};
-ghost use Rattle.kernel_model.specs.Queues.{AreOfOrder};
+ghost use Rattle.kernel_model.specs.Tasks.Queues.{AreOfOrder};
 ghost use Rattle.tk_types.specs.declared.task.Order.TheVariants.{Fifo};
-ghost use Rattle.kernel_model.specs.TaskCalls.{delay, sleep};
+ghost use Rattle.kernel_model.specs.Tasks.Calls.{delay, sleep};
 
 use kernel_base::answers::{caller, done, failed};
 use kernel_base::{Base, Order};
@@ -17,7 +17,7 @@ pub(crate) const SLEEP: u32 = 0;
 const DELAY: u32 = 1;
 
 /// `tk_slp_tsk`: the caller takes a wake-up request, or waits for one.
-#[tactic(auto, unfolding(kernel_model::specs::TaskCalls::sleep))]
+#[tactic(auto, unfolding(kernel_model::specs::Tasks::Calls::sleep))]
 pub(crate) fn sleep(base: &mut Base, who: Who, timeout: i32) -> Outcome
     requires few { base.old.made < 2 ^ 63 }
     requires early { base.old.time < 2 ^ 63 }
@@ -44,7 +44,7 @@ pub(crate) fn sleep(base: &mut Base, who: Who, timeout: i32) -> Outcome
 }
 
 /// `tk_dly_tsk`: the caller waits for a time; one of 0 milliseconds is over at once.
-#[tactic(auto, unfolding(kernel_model::specs::TaskCalls::delay))]
+#[tactic(auto, unfolding(kernel_model::specs::Tasks::Calls::delay))]
 pub(crate) fn delay(base: &mut Base, who: Who, time: i32) -> Outcome
     requires few { base.old.made < 2 ^ 63 }
     requires early { base.old.time < 2 ^ 63 }

@@ -1,7 +1,7 @@
 //! Tasks are suspended and resumed.
 
 ghost use Rattle.std.specs.Prelude.{◌≡◌};
-ghost use Rattle.kernel_model.specs.TaskCalls.{may_suspend, resume_task, suspend_task};
+ghost use Rattle.kernel_model.specs.Tasks.Calls.{may_suspend, resume_task, suspend_task};
 
 use crate::names::task_id;
 use kernel_base::Base;
@@ -19,7 +19,7 @@ fn may_suspend(base: &Base, task: u8) -> bool
 }
 
 /// `tk_sus_tsk`: another task is suspended once more.
-#[tactic(auto, unfolding(kernel_model::specs::TaskCalls::suspend_task))]
+#[tactic(auto, unfolding(kernel_model::specs::Tasks::Calls::suspend_task))]
 pub(crate) fn suspend_task(base: &mut Base, who: Who, task: i32) -> Outcome
     ensures { suspend_task base.old who task ≡ record { base = base.new; outcome = result } }
 {
@@ -46,7 +46,7 @@ pub(crate) fn suspend_task(base: &mut Base, who: Who, task: i32) -> Outcome
 }
 
 /// `tk_rsm_tsk` and `tk_frsm_tsk`: one suspension of a task is taken off, or all.
-#[tactic(auto, unfolding(kernel_model::specs::TaskCalls::resume_task))]
+#[tactic(auto, unfolding(kernel_model::specs::Tasks::Calls::resume_task))]
 pub(crate) fn resume_task(base: &mut Base, task: i32, all: bool) -> Outcome
     ensures { resume_task base.old task all ≡ record { base = base.new; outcome = result } }
 {

@@ -1,7 +1,7 @@
 //! Each call once where it does its work, and once where it is refused, with answers taken from the table of calls.
 
 ghost use Rattle.std.specs.Prelude.{◌≤◌};
-ghost use Rattle.kernel_model.specs.Queues.{AreOfOrder};
+ghost use Rattle.kernel_model.specs.Tasks.Queues.{AreOfOrder};
 ghost use Rattle.tk_types.specs.declared.task.Order.TheVariants.{Fifo};
 
 use crate::call;

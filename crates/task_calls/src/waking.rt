@@ -1,7 +1,7 @@
 //! Wake-up requests.
 
 ghost use Rattle.std.specs.Prelude.{◌≡◌, true};
-ghost use Rattle.kernel_model.specs.TaskCalls.{cancel_wakeups, takes_wakeup, wake_up, woken};
+ghost use Rattle.kernel_model.specs.Tasks.Calls.{cancel_wakeups, takes_wakeup, wake_up, woken};
 
 use crate::names::{named_task, task_id};
 use crate::sleeping::SLEEP;
@@ -33,7 +33,7 @@ fn wake(base: &mut Base, task: u8)
 }
 
 /// `tk_wup_tsk`: another task is woken.
-#[tactic(auto, unfolding(kernel_model::specs::TaskCalls::wake_up))]
+#[tactic(auto, unfolding(kernel_model::specs::Tasks::Calls::wake_up))]
 pub(crate) fn wake_up(base: &mut Base, who: Who, task: i32) -> Outcome
     ensures { wake_up base.old who task ≡ record { base = base.new; outcome = result } }
 {
@@ -57,7 +57,7 @@ pub(crate) fn wake_up(base: &mut Base, who: Who, task: i32) -> Outcome
 }
 
 /// `tk_can_wup`: answers the wake-up requests of a task and clears them.
-#[tactic(auto, unfolding(kernel_model::specs::TaskCalls::cancel_wakeups))]
+#[tactic(auto, unfolding(kernel_model::specs::Tasks::Calls::cancel_wakeups))]
 pub(crate) fn cancel_wakeups(base: &mut Base, who: Who, task: i32) -> Outcome
     ensures { cancel_wakeups base.old who task ≡ record { base = base.new; outcome = result } }
 {

@@ -2,7 +2,7 @@
 use Rattle.std.proofs.Common.{◌≡◌, ℕ, ℤ, pos, ◌+◌, ◌<◌, List, [], ◌∷◌, ◌++◌, length, take, map, set, get_or, refl, sym, ap, ◌∙◌, arith}
 use Rattle.std.specs.Int.{w32, cast_unsigned}
 use Rattle.std.proofs.lemmas.List.{length-map, length-take, map_more}
-use Rattle.kernel_model.specs.Statements.{over}
+use Rattle.kernel_model.specs.Bodies.Statements.{over}
 
 -- one more value goes over the registers
 pub over_push : (values registers : List ℕ) (value : ℕ) → length values < length registers → set (over values registers) (length values) value ≡ over (values ++ value ∷ []) registers

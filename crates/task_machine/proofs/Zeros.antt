@@ -2,7 +2,7 @@
 use Rattle.std.proofs.Common.{◌≡◌, ◌<◌, ℕ, List, replicate, length, ap, ◌∙◌, arith}
 use Rattle.std.proofs.lemmas.List.{length-replicate}
 use Rattle.std.proofs.lemmas.List.Elements.{All-replicate, All-same}
-use Rattle.kernel_model.specs.Statements.{memory_size}
+use Rattle.kernel_model.specs.Bodies.Statements.{memory_size}
 use Rattle.task_machine.specs.Bytes.{IsMemory}
 
 pub zeros_are_memory : (bytes : List ℕ) (count : ℕ) → count ≡ memory_size → bytes ≡ replicate count 0 → IsMemory bytes

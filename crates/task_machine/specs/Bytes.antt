@@ -1,7 +1,7 @@
 -- What holds of the script's memory at every time.
 use Rattle.std.specs.Prelude.{ℕ, ◌≡◌, ◌<◌, List, length}
 use Rattle.std.specs.List.{All}
-use Rattle.kernel_model.specs.Statements.{memory_size}
+use Rattle.kernel_model.specs.Bodies.Statements.{memory_size}
 
 -- as many bytes as there are addresses
 pub record IsMemory (memory : List ℕ) : Type 0 where

@@ -3,7 +3,7 @@
 ghost use Rattle.std.specs.Prelude.{◌≡◌, ◌<◌, ◌∷◌, OnSome, length, map, take};
 ghost use Rattle.std.specs.Int.{cast_unsigned, w32};
 ghost use Rattle.std.specs.Option.{option_copied};
-ghost use Rattle.kernel_model.specs.Statements.{body_at, give, over, passed, register_value, start_frame, statement_at, with_register};
+ghost use Rattle.kernel_model.specs.Bodies.Statements.{body_at, give, over, passed, register_value, start_frame, statement_at, with_register};
 
 use tk_types::{Answer, Body, Frame, Script, Stmt};
 
@@ -91,7 +91,7 @@ fn write_registers(registers: &mut [u32], value: u32, fields: &[i32])
 }
 
 /// An answer goes into a frame: its value into r0, and its fields into the registers behind.
-#[tactic(auto, unfolding(kernel_model::specs::Statements::give))]
+#[tactic(auto, unfolding(kernel_model::specs::Bodies::Statements::give))]
 pub fn give(frame: &mut Frame, answer: &Answer)
     ensures { frame.new ≡ give frame.old answer.now }
 {

@@ -1,7 +1,7 @@
 //! The script's memory: one byte for each address.
 
 ghost use Rattle.std.specs.Prelude.{◌≡◌, ◌<◌, IfOk, replicate, slice_index, slice_set};
-ghost use Rattle.kernel_model.specs.Statements.{memory_size};
+ghost use Rattle.kernel_model.specs.Bodies.Statements.{memory_size};
 
 use std::alloc::{AllocError, Global};
 use std::marker::Model;

@@ -2,7 +2,7 @@
 
 ghost use Rattle.std.specs.Prelude.{◌≡◌, ◌≤◌, bytes_eq, length, position, slice_get};
 ghost use Rattle.std.specs.Int.{cast_signed, w32};
-ghost use Rattle.kernel_model.specs.Statements.{argument_value, argument_values, device_number, IsRunnable, operand_value, value_in};
+ghost use Rattle.kernel_model.specs.Bodies.Statements.{argument_value, argument_values, device_number, IsRunnable, operand_value, value_in};
 
 use crate::frames::register_value;
 use tk_types::{Arg, Device, Frame, Operand, Script};

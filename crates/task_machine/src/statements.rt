@@ -1,7 +1,7 @@
 //! Statements: what each does to its frame and to the script's memory, and what it asks of the machine.
 
 ghost use Rattle.std.specs.Prelude.{◌≡◌, ◌<◌, if◌then◌else◌};
-ghost use Rattle.kernel_model.specs.Statements.{byte_at, call_before, computed, fetch, is_less, is_taken, IsRunnable, label_place, operand_value, passed, register_value, with_byte, with_register};
+ghost use Rattle.kernel_model.specs.Bodies.Statements.{byte_at, call_before, computed, fetch, is_less, is_taken, IsRunnable, label_place, operand_value, passed, register_value, with_byte, with_register};
 
 use crate::frames::{body_at, pass, register_value, set_register, statement_at};
 use crate::memory::{Memory, SIZE, byte, set_byte};
@@ -116,7 +116,7 @@ fn ask(act: Act, frame: &mut Frame) -> Act
 }
 
 /// Does one statement of a frame, and answers what it asks of the machine.
-#[tactic(auto, unfolding(kernel_model::specs::Statements::fetch))]
+#[tactic(auto, unfolding(kernel_model::specs::Bodies::Statements::fetch))]
 pub fn fetch(frame: &mut Frame, memory: &mut Memory, script: &Script) -> Act
     requires { IsRunnable script.now }
     ensures { fetch script.now frame.old memory.old ≡ record { frame = frame.new; memory = memory.new; act = result } }
@@ -161,7 +161,7 @@ pub fn fetch(frame: &mut Frame, memory: &mut Memory, script: &Script) -> Act
 }
 
 /// The call in which a frame's task waits: that of the statement it passed last.
-#[tactic(auto, unfolding(kernel_model::specs::Statements::call_before))]
+#[tactic(auto, unfolding(kernel_model::specs::Bodies::Statements::call_before))]
 pub fn call_before(script: &Script, frame: &Frame) -> Option<CallName>
     ensures { result ≡ call_before script.now frame.now }
 {

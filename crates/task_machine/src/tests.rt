@@ -1,7 +1,7 @@
 //! Frames, memory and statements at work, with ample memory.
 
 ghost use Rattle.std.specs.Prelude.{IfOk};
-ghost use Rattle.kernel_model.specs.Statements.{IsRunnable};
+ghost use Rattle.kernel_model.specs.Bodies.Statements.{IsRunnable};
 
 use crate::{byte, call_before, fetch, give, new_memory, set_byte, start_frame};
 use std::alloc::Global;

@@ -8,7 +8,7 @@ use Rattle.std.proofs.lemmas.List.Elements.{All-nil, All-cons, All-head, All-tai
 use Rattle.std.proofs.lemmas.List.Kept.{AllPairs-cons, AllPairs-filter}
 use Rattle.std.proofs.lemmas.List.Filters.{length-filter_both}
 use Rattle.tk_types.specs.declared.task.DueEvent.{DueEvent}
-use Rattle.kernel_model.specs.Events.{insert_event}
+use Rattle.kernel_model.specs.Words.Events.{insert_event}
 use Rattle.time_queue.specs.Queue.{IsInOrder, HasDistinctKeys, HasKeysBelow, IsKept}
 
 pub pairs_head : {X : Type 0} (R : X → X → Type 0) (x : X) (xs : List X) → AllPairs R (x ∷ xs) → All (R x) xs

@@ -2,7 +2,7 @@
 
 ghost use Rattle.std.specs.Prelude.{◌≡◌, ◌<◌, ◌≤◌, ◌^◌, ◌+◌, ◌==◌, [], IfOk, length, nat_lt, position, vec_capacity};
 ghost use Rattle.std.specs.List.{position_or_len};
-ghost use Rattle.kernel_model.specs.Events.{due_event, has_key, insert_event, is_wait_of, left_after, limit_of, without_key, without_wait};
+ghost use Rattle.kernel_model.specs.Words.Events.{due_event, has_key, insert_event, is_wait_of, left_after, limit_of, without_key, without_wait};
 
 use std::alloc::{AllocError, Global};
 use std::marker::Model;

@@ -2,7 +2,7 @@
 
 ghost use Rattle.std.specs.Prelude.{◌≡◌, ◌∷◌, ◌++◌, List, nat_le, nat_lt, filter};
 ghost use Rattle.tk_types.specs.declared.task.DueEvent.{DueEvent};
-ghost use Rattle.kernel_model.specs.Events.{insert_event};
+ghost use Rattle.kernel_model.specs.Words.Events.{insert_event};
 ghost use Rattle.time_queue.specs.Queue.{IsInOrder};
 
 /// Events in order stay in order when one more is set.

@@ -7,14 +7,15 @@ use Rattle.tk_types.specs.declared.task.Task.{Task}
 use Rattle.tk_types.specs.declared.task.Release.{Release}
 use Rattle.tk_types.specs.declared.task.Event.{Event as DueKind}
 use Rattle.tk_types.specs.declared.line.Line.{Line}
-use Rattle.kernel_model.specs.Orders.{entry}
-use Rattle.kernel_model.specs.Base.{Base, task_at, set_current, take_release, take_due}
+use Rattle.kernel_model.specs.Words.Orders.{entry}
+use Rattle.kernel_model.specs.Tasks.Base.{Base, task_at, set_current, take_release, take_due}
 use Rattle.tk_types.specs.declared.task.DueEvent.{DueEvent}
-use Rattle.kernel_model.specs.Events.{due_event, first_event, is_due}
-use Rattle.kernel_model.specs.Priority.{refresh, taken_from, current_of}
-use Rattle.kernel_model.specs.State.{State}
-use Rattle.kernel_model.specs.Settle.{Event, behind, follow_release, follow_each}
-use Rattle.kernel_model.specs.Ticks.{fallen, due_done}
+use Rattle.kernel_model.specs.Words.Events.{due_event, first_event, is_due}
+use Rattle.first_machine.specs.Priority.{refresh, current_of}
+use Rattle.kernel_model.specs.Words.Orders.{taken_from}
+use Rattle.first_machine.specs.State.{State}
+use Rattle.first_machine.specs.Settle.{Event, behind, follow_release, follow_each}
+use Rattle.first_machine.specs.Ticks.{fallen, due_done}
 
 -- ---- the waits that ended
 

@@ -4,24 +4,25 @@ use Rattle.std.specs.Prelude.{replicate, slice_set}
 use Rattle.tk_types.specs.declared.script.Script.{Script}
 use Rattle.tk_types.specs.declared.run.End.{End}
 use Rattle.tk_types.specs.declared.line.Line.{Line}
-use Rattle.kernel_model.specs.Counts.{IsCounted}
+use Rattle.first_machine.specs.Counts.{IsCounted}
 use Rattle.tk_types.specs.declared.run.Frame.{Frame}
-use Rattle.kernel_model.specs.Base.{Base, base_start}
-use Rattle.kernel_model.specs.State.{State, no_frame, state_start}
-use Rattle.kernel_model.specs.Statements.{IsRunnable, memory_size, start_frame}
+use Rattle.kernel_model.specs.Tasks.Base.{Base, base_start}
+use Rattle.first_machine.specs.State.{State, no_frame, state_start}
+use Rattle.kernel_model.specs.Bodies.Statements.{IsRunnable, memory_size, start_frame}
 use Rattle.tk_types.specs.declared.answer.Outcome.{Outcome}
 use Rattle.tk_types.specs.declared.calls.Call.{Call}
-use Rattle.kernel_model.specs.Calls.{CallDone, answered, called, changes_priority, family_call}
-use Rattle.kernel_model.specs.Rest.{AreUpToDate, IsAtRest}
-use Rattle.kernel_model.specs.Settle.{Event, behind, dispatched, followed, settle, with_releases}
-use Rattle.kernel_model.specs.Step.{done_at, paced, step, worked}
-use Rattle.kernel_model.specs.Trace.{start}
-use Rattle.kernel_model.specs.SemFlags.{SemFlags, sem_flags_start}
-use Rattle.kernel_model.specs.Waits.{HavePlaces, IsOrderly}
-use Rattle.kernel_model.proofs.Priorities.{called_up_to_date}
-use Rattle.kernel_model.proofs.Rest.{followed_none, followed_rest, start_rest}
-use Rattle.kernel_model.proofs.StepOrders.{first_orderly, start_orderly, worked_orderly}
-use Rattle.kernel_model.proofs.Counts.{start_counted, start_unstepped, step_counted, step_left}
+use Rattle.first_machine.specs.Calls.{CallDone, answered, called, changes_priority, family_call}
+use Rattle.first_machine.specs.Rest.{AreUpToDate, IsAtRest}
+use Rattle.first_machine.specs.Settle.{Event, behind, dispatched, followed, settle, with_releases}
+use Rattle.first_machine.specs.Step.{done_at, paced, step, worked}
+use Rattle.first_machine.specs.Trace.{start}
+use Rattle.kernel_model.specs.SemFlags.Tables.{SemFlags, sem_flags_start}
+use Rattle.kernel_model.specs.Tasks.Waits.{HavePlaces}
+use Rattle.first_machine.specs.Waits.{IsOrderly}
+use Rattle.first_machine.proofs.Priorities.{called_up_to_date}
+use Rattle.first_machine.proofs.Rest.{followed_none, followed_rest, start_rest}
+use Rattle.first_machine.proofs.StepOrders.{first_orderly, start_orderly, worked_orderly}
+use Rattle.first_machine.proofs.Counts.{start_counted, start_unstepped, step_counted, step_left}
 use Rattle.tk_kernel.specs.Budgets.{IsGoing}
 
 -- the parts of the start are the start

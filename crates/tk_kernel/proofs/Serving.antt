@@ -4,18 +4,18 @@ use Rattle.std.specs.Prelude.{unwrap_or}
 use Rattle.std.specs.Option.{is_some, option_map}
 use Rattle.tk_types.specs.declared.answer.Answer.{Answer}
 use Rattle.tk_types.specs.declared.task.Event.{Event}
-use Rattle.kernel_model.specs.Base.{Base, release, take_due}
-use Rattle.kernel_model.specs.Priority.{current_of}
-use Rattle.kernel_model.specs.SemFlags.{SemFlags, SemFlagParts, serve_sem_flag}
-use Rattle.kernel_model.specs.Objects.{Objects, Parts, serve_object, with_sem_flags}
-use Rattle.kernel_model.specs.State.{State}
-use Rattle.kernel_model.specs.Settle.{refreshed, serve_first, served_within, settle}
-use Rattle.kernel_model.specs.Ticks.{fallen}
-use Rattle.kernel_model.specs.Rest.{AreUpToDate}
-use Rattle.kernel_model.specs.Waits.{IsOrderly}
-use Rattle.kernel_model.proofs.Served.{next_served, resettle_keeps, serving, with_parts}
-use Rattle.kernel_model.proofs.Settled.{resettled_same, serving_up_to_date}
-use Rattle.kernel_model.proofs.StepOrders.{current_orderly, fallen_orderly, release_orderly, serving_orderly}
+use Rattle.kernel_model.specs.Tasks.Base.{Base, release, take_due}
+use Rattle.first_machine.specs.Priority.{current_of}
+use Rattle.kernel_model.specs.SemFlags.Tables.{SemFlags, SemFlagParts, serve_sem_flag}
+use Rattle.first_machine.specs.Objects.{Objects, Parts, serve_object, with_sem_flags}
+use Rattle.first_machine.specs.State.{State}
+use Rattle.first_machine.specs.Settle.{refreshed, serve_first, served_within, settle}
+use Rattle.first_machine.specs.Ticks.{fallen}
+use Rattle.first_machine.specs.Rest.{AreUpToDate}
+use Rattle.first_machine.specs.Waits.{IsOrderly}
+use Rattle.first_machine.proofs.Served.{next_served, resettle_keeps, serving, with_parts}
+use Rattle.first_machine.proofs.Settled.{resettled_same, serving_up_to_date}
+use Rattle.first_machine.proofs.StepOrders.{current_orderly, fallen_orderly, release_orderly, serving_orderly}
 use Rattle.sem_flag.specs.Parts.{parts_of}
 
 -- ---- one serving

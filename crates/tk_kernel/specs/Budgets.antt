@@ -2,11 +2,11 @@
 use Rattle.std.specs.Prelude.{ℕ, ◌≡◌, ◌<◌, ◌≤◌, Bool, false, Option, None}
 use Rattle.tk_types.specs.declared.script.Script.{Script}
 use Rattle.tk_types.specs.declared.run.End.{End}
-use Rattle.kernel_model.specs.Counts.{IsCounted}
-use Rattle.kernel_model.specs.Rest.{IsAtRest}
-use Rattle.kernel_model.specs.State.{State}
-use Rattle.kernel_model.specs.Statements.{IsRunnable}
-use Rattle.kernel_model.specs.Waits.{IsOrderly}
+use Rattle.first_machine.specs.Counts.{IsCounted}
+use Rattle.first_machine.specs.Rest.{IsAtRest}
+use Rattle.first_machine.specs.State.{State}
+use Rattle.kernel_model.specs.Bodies.Statements.{IsRunnable}
+use Rattle.first_machine.specs.Waits.{IsOrderly}
 
 -- while the run goes on, a step of the budget is left, no count passes that of the steps, and each task that waits
 -- stands in the queue of an object that there is, in its order; and nothing follows any more from what was done

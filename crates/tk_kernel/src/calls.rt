@@ -1,9 +1,9 @@
 //! Calls of tasks, and what follows from them for the bodies of the script.
 
 ghost use Rattle.std.specs.Prelude.{◌≡◌, ◌<◌, ◌^◌, ◌++◌, OnOk, false};
-ghost use Rattle.kernel_model.specs.Calls.{answered, begun, call_lines, called, changes_priority, family_call, noted, with_body, with_start};
-ghost use Rattle.kernel_model.specs.Rest.{AreUpToDate, IsAtRest};
-ghost use Rattle.kernel_model.specs.Waits.{IsOrderly};
+ghost use Rattle.first_machine.specs.Calls.{answered, begun, call_lines, called, changes_priority, family_call, noted, with_body, with_start};
+ghost use Rattle.first_machine.specs.Rest.{AreUpToDate, IsAtRest};
+ghost use Rattle.first_machine.specs.Waits.{IsOrderly};
 
 use crate::kernel::Kernel;
 use kernel_base::answers::failed;
@@ -36,7 +36,7 @@ fn push_call_line(
 
 impl Kernel {
     /// A call of a task, by the family of the call.
-    #[tactic(auto, unfolding(kernel_model::specs::Calls::family_call))]
+    #[tactic(auto, unfolding(first_machine::specs::Calls::family_call))]
     fn family_call(&mut self, task: u8, call: &Call) -> Outcome
         requires few { self.old.base.made < 2 ^ 63 }
         requires early { self.old.base.time < 2 ^ 63 }
@@ -98,7 +98,7 @@ impl Kernel {
     }
 
     /// What became of a call: an answer goes into the registers of the caller.
-    #[tactic(auto, unfolding(kernel_model::specs::Calls::answered))]
+    #[tactic(auto, unfolding(first_machine::specs::Calls::answered))]
     fn take_answer(&mut self, task: u8, call: &Call, outcome: Outcome)
         ensures { self.new ≡ answered self.old task call.now outcome }
     {
@@ -115,7 +115,7 @@ impl Kernel {
     }
 
     /// A task makes a call.
-    #[tactic(auto, unfolding(kernel_model::specs::Calls::called))]
+    #[tactic(auto, unfolding(first_machine::specs::Calls::called))]
     pub(crate) fn make_call(
         &mut self,
         step: u32,

@@ -1,9 +1,9 @@
 //! The state of a run: the kernel's parts, and what the script's bodies have come to.
 
 ghost use Rattle.std.specs.Prelude.{◌≡◌, IfOk, length, replicate, slice_set, unwrap_or};
-ghost use Rattle.kernel_model.specs.Statements.{IsRunnable};
-ghost use Rattle.kernel_model.specs.Waits.{HavePlaces};
-ghost use Rattle.kernel_model.specs.State.{frame_of, no_frame, state_start, with_frame};
+ghost use Rattle.kernel_model.specs.Bodies.Statements.{IsRunnable};
+ghost use Rattle.kernel_model.specs.Tasks.Waits.{HavePlaces};
+ghost use Rattle.first_machine.specs.State.{frame_of, no_frame, state_start, with_frame};
 
 use kernel_base::Base;
 use sem_flag::SemFlags;
@@ -27,7 +27,7 @@ pub(crate) struct Kernel {
 }
 
 impl Model for Kernel {
-    ghost use Rattle.kernel_model.specs.State.{State};
+    ghost use Rattle.first_machine.specs.State.{State};
     ghost use Rattle.tk_kernel.specs.Tables.{AreTables};
 
     ghost Value = { State };
@@ -61,7 +61,7 @@ fn no_frames(alloc: Global) -> Result<Vec<Frame>, AllocError>
 
 impl Kernel {
     /// The start: task 1 is READY, at the start of the boot body.
-    #[tactic(auto, unfolding(kernel_model::specs::State::state_start))]
+    #[tactic(auto, unfolding(first_machine::specs::State::state_start))]
     pub(crate) fn new(alloc: Global, script: &Script) -> Result<Kernel, AllocError>
         requires { IsRunnable script.now }
         ensures { IfOk result (λ kernel. kernel ≡ state_start script.now) }

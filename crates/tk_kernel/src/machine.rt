@@ -1,13 +1,13 @@
 //! The machine that runs a script.
 
 ghost use Rattle.std.specs.Prelude.{◌≡◌, ◌<◌, ◌≤◌, ◌++◌, IfOk, IsErr, OnErr, OnOk, [], true};
-ghost use Rattle.kernel_model.specs.Counts.{IsCounted};
-ghost use Rattle.kernel_model.specs.Machine.{Machine as MachineView, after_step, new_machine};
-ghost use Rattle.kernel_model.specs.Statements.{IsRunnable};
-ghost use Rattle.kernel_model.specs.Step.{step};
+ghost use Rattle.first_machine.specs.Counts.{IsCounted};
+ghost use Rattle.first_machine.specs.Machine.{Machine as MachineView, after_step, new_machine};
+ghost use Rattle.kernel_model.specs.Bodies.Statements.{IsRunnable};
+ghost use Rattle.first_machine.specs.Step.{step};
 ghost use Rattle.tk_kernel.specs.Pace.{pace_of};
-ghost use Rattle.kernel_model.specs.Rest.{IsAtRest};
-ghost use Rattle.kernel_model.specs.Waits.{IsOrderly};
+ghost use Rattle.first_machine.specs.Rest.{IsAtRest};
+ghost use Rattle.first_machine.specs.Waits.{IsOrderly};
 
 use crate::kernel::Kernel;
 use crate::stepping::push_end;
@@ -39,7 +39,7 @@ pub struct Machine {
 }
 
 impl Model for Machine {
-    ghost use Rattle.kernel_model.specs.Machine.{Machine as MachineView};
+    ghost use Rattle.first_machine.specs.Machine.{Machine as MachineView};
     ghost use Rattle.tk_kernel.specs.Budgets.{IsGoing};
 
     ghost Value = { MachineView };
@@ -50,7 +50,7 @@ impl Model for Machine {
 }
 
 /// A step of a run that goes on.
-#[tactic(auto, unfolding(kernel_model::specs::Step::step, kernel_model::specs::Step::counted))]
+#[tactic(auto, unfolding(first_machine::specs::Step::step, first_machine::specs::Step::counted))]
 fn advance(
     kernel: &mut Kernel,
     script: &Script,
@@ -83,7 +83,7 @@ fn advance(
 impl Machine {
     /// A machine at the start of a script, which keeps the line of its first dispatch. The script is one that
     /// some text spells, and the budget of steps is from 1 to 1,000,000.
-    #[tactic(auto, unfolding(kernel_model::specs::Trace::start))]
+    #[tactic(auto, unfolding(first_machine::specs::Trace::start))]
     pub fn new(
         alloc: Global,
         script: Script,

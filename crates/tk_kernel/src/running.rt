@@ -1,12 +1,12 @@
 //! Statements of tasks.
 
 ghost use Rattle.std.specs.Prelude.{◌≡◌, ◌<◌, ◌^◌, ◌∷◌, ◌++◌, IfOk, OnOk, [], false};
-ghost use Rattle.kernel_model.specs.Statements.{IsRunnable};
-ghost use Rattle.kernel_model.specs.Step.{acted, ran, said_line};
-ghost use Rattle.kernel_model.specs.Calls.{changes_priority};
-ghost use Rattle.kernel_model.specs.Rest.{AreUpToDate, IsAtRest};
+ghost use Rattle.kernel_model.specs.Bodies.Statements.{IsRunnable};
+ghost use Rattle.first_machine.specs.Step.{acted, ran, said_line};
+ghost use Rattle.first_machine.specs.Calls.{changes_priority};
+ghost use Rattle.first_machine.specs.Rest.{AreUpToDate, IsAtRest};
 ghost use Rattle.tk_kernel.specs.declared.running.Touched.TheVariants.{AllButPriorities, Nothing};
-ghost use Rattle.kernel_model.specs.Waits.{IsOrderly};
+ghost use Rattle.first_machine.specs.Waits.{IsOrderly};
 
 use crate::kernel::Kernel;
 use std::alloc::AllocError;
@@ -59,7 +59,7 @@ fn say(lines: &mut Vec<Line>, step: u32, who: u8, text: SayText) -> Result<(), A
 impl Kernel {
     /// What a statement of a task asked for, and what it touched: nothing but calls touch what the kernel keeps of tasks and
     /// objects. The end of a task's body is the call that ends the task.
-    #[tactic(auto, unfolding(kernel_model::specs::Step::acted))]
+    #[tactic(auto, unfolding(first_machine::specs::Step::acted))]
     fn act(
         &mut self,
         step: u32,
@@ -99,7 +99,7 @@ impl Kernel {
     }
 
     /// A statement of a task, and what it touched.
-    #[tactic(auto, unfolding(kernel_model::specs::Step::ran))]
+    #[tactic(auto, unfolding(first_machine::specs::Step::ran))]
     pub(crate) fn run(
         &mut self,
         script: &Script,

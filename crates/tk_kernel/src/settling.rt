@@ -2,13 +2,13 @@
 
 ghost use Rattle.std.specs.Prelude.{◌≡◌, ◌≤◌, ◌++◌, OnOk, true, unwrap_or};
 ghost use Rattle.std.specs.Option.{is_some};
-ghost use Rattle.kernel_model.specs.Base.{task_at};
+ghost use Rattle.kernel_model.specs.Tasks.Base.{task_at};
 ghost use Rattle.tk_types.specs.declared.call_name.CallName.{CallName};
-ghost use Rattle.kernel_model.specs.Priority.{current_of, refresh, resettle};
-ghost use Rattle.kernel_model.specs.Rest.{AreUpToDate, IsAtRest};
+ghost use Rattle.first_machine.specs.Priority.{current_of, refresh, resettle};
+ghost use Rattle.first_machine.specs.Rest.{AreUpToDate, IsAtRest};
 ghost use Rattle.tk_kernel.specs.declared.running.Touched.TheVariants.{AllButPriorities};
-ghost use Rattle.kernel_model.specs.Waits.{IsOrderly};
-ghost use Rattle.kernel_model.specs.Settle.{dispatched, follow_release, followed, refreshed, release_line, serve_first, settle, with_releases};
+ghost use Rattle.first_machine.specs.Waits.{IsOrderly};
+ghost use Rattle.first_machine.specs.Settle.{dispatched, follow_release, followed, refreshed, release_line, serve_first, settle, with_releases};
 
 use crate::kernel::Kernel;
 use crate::running::Touched;
@@ -41,7 +41,7 @@ fn refresh(base: &mut Base, task: u8)
 }
 
 /// Each changed current priority is taken over, in rising ID.
-#[tactic(auto, unfolding(kernel_model::specs::Priority::resettle))]
+#[tactic(auto, unfolding(first_machine::specs::Priority::resettle))]
 fn resettle(base: &mut Base)
     ensures { base.new ≡ resettle base.old }
 {
@@ -94,7 +94,7 @@ impl Kernel {
     }
 
     /// Settling: changed priorities are taken over, and waiters are served one after another until none can be.
-    #[tactic(auto, unfolding(kernel_model::specs::Settle::settle))]
+    #[tactic(auto, unfolding(first_machine::specs::Settle::settle))]
     pub(crate) fn settle(&mut self)
         requires orderly { IsOrderly self.old.base self.old.objects }
         ensures { self.new ≡ settle self.old }
@@ -136,7 +136,7 @@ impl Kernel {
     }
 
     /// A wait that ended has its line, and its answer goes into the registers of its task.
-    #[tactic(auto, unfolding(kernel_model::specs::Settle::follow_release))]
+    #[tactic(auto, unfolding(first_machine::specs::Settle::follow_release))]
     fn follow_release(
         &mut self,
         script: &Script,
@@ -155,7 +155,7 @@ impl Kernel {
     }
 
     /// The waits that ended are followed in order, and none is left to take.
-    #[tactic(auto, unfolding(kernel_model::specs::Settle::with_releases))]
+    #[tactic(auto, unfolding(first_machine::specs::Settle::with_releases))]
     fn follow_releases(
         &mut self,
         script: &Script,
@@ -172,7 +172,7 @@ impl Kernel {
     }
 
     /// Dispatching, with a line where the chosen task isn't the current one.
-    #[tactic(auto, unfolding(kernel_model::specs::Settle::dispatched))]
+    #[tactic(auto, unfolding(first_machine::specs::Settle::dispatched))]
     pub(crate) fn dispatch(&mut self, step: u32, lines: &mut Vec<Line>) -> Result<(), AllocError>
         ensures state { OnOk result (self.new ≡ (dispatched step self.old).state) }
         ensures lines { OnOk result (lines.new.items ≡ lines.old.items ++ (dispatched step self.old).lines) }
@@ -187,7 +187,7 @@ impl Kernel {
     }
 
     /// What follows an event, which touched so much: settling, the waits that ended, the dispatch.
-    #[tactic(auto, unfolding(kernel_model::specs::Settle::followed))]
+    #[tactic(auto, unfolding(first_machine::specs::Settle::followed))]
     pub(crate) fn follow(
         &mut self,
         script: &Script,

@@ -2,12 +2,12 @@
 
 ghost use Rattle.std.specs.Prelude.{◌≡◌, ◌<◌, ◌^◌, ◌++◌, IfOk, OnOk};
 ghost use Rattle.std.specs.Bool.{◌==◌};
-ghost use Rattle.kernel_model.specs.Statements.{IsRunnable};
-ghost use Rattle.kernel_model.specs.Step.{counted, done_at, end_after, end_lines, has_tick, is_paced, is_quiet, paced, worked};
-ghost use Rattle.kernel_model.specs.Settle.{Event};
-ghost use Rattle.kernel_model.specs.Rest.{AreUpToDate, IsAtRest};
+ghost use Rattle.kernel_model.specs.Bodies.Statements.{IsRunnable};
+ghost use Rattle.first_machine.specs.Step.{counted, done_at, end_after, end_lines, has_tick, is_paced, is_quiet, paced, worked};
+ghost use Rattle.first_machine.specs.Settle.{Event};
+ghost use Rattle.first_machine.specs.Rest.{AreUpToDate, IsAtRest};
 ghost use Rattle.tk_kernel.specs.declared.running.Touched.TheVariants.{AllButPriorities, Nothing};
-ghost use Rattle.kernel_model.specs.Waits.{IsOrderly};
+ghost use Rattle.first_machine.specs.Waits.{IsOrderly};
 
 use crate::kernel::Kernel;
 use crate::running::Touched;
@@ -84,7 +84,7 @@ impl Kernel {
 
     /// What is done at a step: a pending tick, the statement of the current task, or an idle tick. The answer is what it
     /// touched of what the kernel keeps of tasks and objects.
-    #[tactic(auto, unfolding(kernel_model::specs::Step::done_at))]
+    #[tactic(auto, unfolding(first_machine::specs::Step::done_at))]
     fn do_step(
         &mut self,
         script: &Script,
@@ -115,7 +115,7 @@ impl Kernel {
     }
 
     /// What is done at a step, with all that follows it: where it touched nothing, nothing does.
-    #[tactic(auto, unfolding(kernel_model::specs::Step::worked))]
+    #[tactic(auto, unfolding(first_machine::specs::Step::worked))]
     pub(crate) fn work(
         &mut self,
         script: &Script,
@@ -142,7 +142,7 @@ impl Kernel {
     }
 
     /// Counts a step, and ends the run after `halt` or at its budget.
-    #[tactic(auto, unfolding(kernel_model::specs::Step::counted))]
+    #[tactic(auto, unfolding(first_machine::specs::Step::counted))]
     pub(crate) fn count(
         &mut self,
         budget: u32,

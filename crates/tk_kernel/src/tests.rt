@@ -1,7 +1,7 @@
 //! Small scripts, run to each of their ends.
 
 ghost use Rattle.std.specs.Prelude.{IfOk};
-ghost use Rattle.kernel_model.specs.Statements.{IsRunnable};
+ghost use Rattle.kernel_model.specs.Bodies.Statements.{IsRunnable};
 
 use crate::{Machine, Pace};
 use std::alloc::Global;

@@ -1,8 +1,8 @@
 //! Ticks: the time grows, and what is due is taken.
 
 ghost use Rattle.std.specs.Prelude.{◌≡◌, ◌<◌, ◌^◌, ◌++◌, OnOk};
-ghost use Rattle.kernel_model.specs.Waits.{IsOrderly};
-ghost use Rattle.kernel_model.specs.Ticks.{due_done, fallen, limit_answer, tick};
+ghost use Rattle.first_machine.specs.Waits.{IsOrderly};
+ghost use Rattle.first_machine.specs.Ticks.{due_done, fallen, limit_answer, tick};
 
 use crate::kernel::Kernel;
 use kernel_base::answers::plain;
@@ -25,7 +25,7 @@ fn limit_answer(base: &Base, task: u8) -> Answer
 
 impl Kernel {
     /// An event that fell due. Settling follows the end of a wait.
-    #[tactic(auto, unfolding(kernel_model::specs::Ticks::fallen))]
+    #[tactic(auto, unfolding(first_machine::specs::Ticks::fallen))]
     fn fall(&mut self, what: Event)
         requires orderly { IsOrderly self.old.base self.old.objects }
         ensures { self.new ≡ fallen self.old what }
@@ -55,7 +55,7 @@ impl Kernel {
     }
 
     /// A tick, with its line: the time grows by one, and all that is due by then is done.
-    #[tactic(auto, unfolding(kernel_model::specs::Ticks::tick))]
+    #[tactic(auto, unfolding(first_machine::specs::Ticks::tick))]
     pub(crate) fn tick(&mut self, step: u32, lines: &mut Vec<Line>) -> Result<(), AllocError>
         requires early { self.old.base.time < 2 ^ 63 }
         requires orderly { IsOrderly self.old.base self.old.objects }

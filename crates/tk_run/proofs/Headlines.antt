@@ -5,7 +5,7 @@ use Rattle.tk_types.specs.declared.script.Reading.TheVariants as readings
 use Rattle.tk_types.specs.declared.run.Mode.{Mode}
 use Rattle.tk_types.specs.declared.run.End.{End}
 use Rattle.tk_types.specs.declared.run.End.TheVariants as ends
-use Rattle.kernel_model.specs.Trace.{trace}
+use Rattle.first_machine.specs.Trace.{trace}
 use Rattle.tk_run.specs.declared.command.Command.TheVariants.{Run, Check}
 use Rattle.tk_run.specs.declared.status.Status.{Status}
 use Rattle.tk_run.specs.declared.status.Status.TheVariants as statuses

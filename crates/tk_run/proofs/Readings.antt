@@ -8,7 +8,7 @@ use Rattle.tk_types.specs.declared.script.Reading.{Reading}
 use Rattle.tk_types.specs.declared.script.Reading.TheVariants as readings
 use Rattle.tk_types.specs.declared.why.Why.TheVariants.{Long}
 use Rattle.tk_model.specs.ScriptText.{Spells}
-use Rattle.kernel_model.specs.Statements.{IsRunnable}
+use Rattle.kernel_model.specs.Bodies.Statements.{IsRunnable}
 use Rattle.tk_raw.specs.RawReading.{Refusal, raw_reading}
 use Rattle.tk_raw.specs.declared.raw.RawScript.{RawScript}
 use Rattle.tk_script.specs.Built.{reading_built, resolved_built}

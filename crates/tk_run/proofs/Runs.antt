@@ -8,11 +8,11 @@ use Rattle.tk_types.specs.declared.run.End.{End}
 use Rattle.tk_types.specs.declared.run.End.TheVariants as ends
 use Rattle.tk_ports.specs.Streams.{Appends, AppendsFront}
 use Rattle.tk_ports.proofs.Streams.{appends_none, appends_append, front_of_part, front_behind, front_within}
-use Rattle.kernel_model.specs.State.{State}
-use Rattle.kernel_model.specs.Step.{Stepped, step}
-use Rattle.kernel_model.specs.Trace.{Trace, after, steps_from, trace}
+use Rattle.first_machine.specs.State.{State}
+use Rattle.first_machine.specs.Step.{Stepped, step}
+use Rattle.first_machine.specs.Trace.{Trace, after, steps_from, trace}
 use Rattle.tk_model.specs.LineText.{text_of_lines}
-use Rattle.kernel_model.specs.Machine.{Machine, new_machine, stepped, after_step}
+use Rattle.first_machine.specs.Machine.{Machine, new_machine, stepped, after_step}
 use Rattle.tk_trace.proofs.Growth.{lines_append}
 use Rattle.tk_run.specs.declared.status.Status.{Status}
 use Rattle.tk_run.specs.declared.status.Status.TheVariants as statuses

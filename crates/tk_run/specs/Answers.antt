@@ -5,7 +5,7 @@ use Rattle.tk_types.specs.declared.run.Mode.{Mode}
 use Rattle.tk_types.specs.declared.run.End.{End}
 use Rattle.tk_types.specs.declared.run.End.TheVariants as ends
 use Rattle.tk_ports.specs.Streams.{Appends, AppendsFront}
-use Rattle.kernel_model.specs.Trace.{trace}
+use Rattle.first_machine.specs.Trace.{trace}
 use Rattle.tk_model.specs.LineText.{text_of_lines}
 use Rattle.tk_run.specs.declared.command.Command.{Command}
 use Rattle.tk_run.specs.declared.command.Command.TheVariants.{Run, Check}

@@ -9,7 +9,7 @@ use Rattle.tk_types.specs.declared.run.End.TheVariants as ends
 use Rattle.tk_types.specs.declared.why.Why.{Why}
 use Rattle.tk_types.specs.Reasons.{why_text}
 use Rattle.tk_model.specs.ScriptText.{printed}
-use Rattle.kernel_model.specs.Trace.{Trace, trace}
+use Rattle.first_machine.specs.Trace.{Trace, trace}
 use Rattle.tk_model.specs.LineText.{text_of_lines}
 use Rattle.tk_run.specs.declared.command.Command.{Command}
 use Rattle.tk_run.specs.declared.command.Command.TheVariants.{Run, Check}

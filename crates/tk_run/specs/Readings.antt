@@ -2,7 +2,7 @@
 use Rattle.std.specs.Prelude.{ℕ, List}
 use Rattle.tk_types.specs.declared.script.Reading.{Reading}
 use Rattle.tk_types.specs.declared.script.Reading.TheVariants as readings
-use Rattle.kernel_model.specs.Statements.{IsRunnable}
+use Rattle.kernel_model.specs.Bodies.Statements.{IsRunnable}
 use Rattle.tk_script.specs.Reading.{answer, reading}
 use Rattle.tk_script.specs.Built.{reading_built}
 

@@ -4,10 +4,10 @@ use Rattle.tk_types.specs.declared.script.Script.{Script}
 use Rattle.tk_types.specs.declared.line.Line.{Line}
 use Rattle.tk_types.specs.declared.run.End.{End}
 use Rattle.tk_ports.specs.Streams.{Appends, AppendsFront}
-use Rattle.kernel_model.specs.State.{State}
-use Rattle.kernel_model.specs.Trace.{Trace, after, steps_from}
+use Rattle.first_machine.specs.State.{State}
+use Rattle.first_machine.specs.Trace.{Trace, after, steps_from}
 use Rattle.tk_model.specs.LineText.{text_of_lines}
-use Rattle.kernel_model.specs.Machine.{Machine, after_step}
+use Rattle.first_machine.specs.Machine.{Machine, after_step}
 use Rattle.tk_run.specs.declared.turn.Turn.{Turn}
 use Rattle.tk_run.specs.declared.turn.Turn.TheVariants.{Went, Over, WriteFault, NoMemory}
 

@@ -2,8 +2,8 @@
 
 ghost use Rattle.std.specs.Prelude.{◌≡◌, ◌≤◌, length};
 ghost use Rattle.tk_ports.specs.Streams.{Rose};
-ghost use Rattle.kernel_model.specs.Statements.{IsRunnable};
-ghost use Rattle.kernel_model.specs.Trace.{trace};
+ghost use Rattle.kernel_model.specs.Bodies.Statements.{IsRunnable};
+ghost use Rattle.first_machine.specs.Trace.{trace};
 ghost use Rattle.tk_run.specs.Answers.{IsCertain, RunAnswers};
 ghost use Rattle.tk_run.specs.Outcomes.{status_of_end, trace_outcome};
 

@@ -3,9 +3,9 @@ use mir.Syntax.{w32}
 use Rattle.std.proofs.Common.{◌≡◌, ◌-◌, rules, arith, ap, sym, ◌∙◌, subst}
 use Rattle.tk_types.specs.declared.error_code.Er.TheVariants as er
 use Rattle.tk_types.specs.Codes.{code_of}
-use Rattle.kernel_model.specs.Base.{Base, release}
-use Rattle.kernel_model.specs.Checks.{plain}
-use Rattle.kernel_model.specs.Queues.{AreOfOrder}
+use Rattle.kernel_model.specs.Tasks.Base.{Base, release}
+use Rattle.kernel_model.specs.Words.Checks.{plain}
+use Rattle.kernel_model.specs.Tasks.Queues.{AreOfOrder}
 use Rattle.sem_flag.proofs.Ending.{release_alike, ended_more, ended_all, ended_early}
 use Rattle.sem_flag.proofs.deleting.end_waits.Goals as goal
 

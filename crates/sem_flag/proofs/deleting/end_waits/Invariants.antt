@@ -1,6 +1,6 @@
 use Rattle.std.proofs.Common.{◌≡◌, ◌-◌}
-use Rattle.kernel_model.specs.Queues.{AreOfOrder}
-use Rattle.kernel_model.specs.SemFlagCalls.{end_first, end_waits}
+use Rattle.kernel_model.specs.Tasks.Queues.{AreOfOrder}
+use Rattle.kernel_model.specs.SemFlags.Calls.{end_first, end_waits}
 use Rattle.sem_flag.proofs.deleting.end_waits.Given as goal
 
 -- what is left to end comes to what all comes to, and the waiters still queue in that order

@@ -1,6 +1,6 @@
 use Rattle.std.proofs.Common.{sym, ◌∙◌}
-use Rattle.kernel_model.specs.Base.{queue}
-use Rattle.kernel_model.specs.SemFlags.{is_there}
+use Rattle.kernel_model.specs.Tasks.Base.{queue}
+use Rattle.kernel_model.specs.SemFlags.Tables.{is_there}
 use Rattle.sem_flag.proofs.Finding.{find_here, find_further}
 use Rattle.sem_flag.proofs.serving.find_there.Goals as goal
 

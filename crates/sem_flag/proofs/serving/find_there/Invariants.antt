@@ -1,7 +1,7 @@
 use Rattle.std.proofs.Common.{◌≡◌, drop}
 use Rattle.std.specs.List.{find}
-use Rattle.kernel_model.specs.Base.{queue}
-use Rattle.kernel_model.specs.SemFlags.{is_there}
+use Rattle.kernel_model.specs.Tasks.Base.{queue}
+use Rattle.kernel_model.specs.SemFlags.Tables.{is_there}
 use Rattle.sem_flag.proofs.serving.find_there.Given as goal
 
 -- the first that is found in what is left is the first of all

@@ -1,5 +1,5 @@
 use Rattle.std.proofs.Common.{arith, sym, ◌∙◌}
-use Rattle.kernel_model.specs.SemFlags.{serve_flag}
+use Rattle.kernel_model.specs.SemFlags.Tables.{serve_flag}
 use Rattle.sem_flag.specs.Parts.{parts_of}
 use Rattle.sem_flag.proofs.Firsts.{first_here, first_further, first_nowhere, flag_there}
 use Rattle.sem_flag.proofs.serving.serve_first_flag.Goals as goal

@@ -1,5 +1,5 @@
 use Rattle.std.proofs.Common.{arith, sym, ◌∙◌}
-use Rattle.kernel_model.specs.SemFlags.{serve_sem}
+use Rattle.kernel_model.specs.SemFlags.Tables.{serve_sem}
 use Rattle.sem_flag.specs.Parts.{parts_of}
 use Rattle.sem_flag.proofs.Firsts.{first_here, first_further, first_nowhere, sem_there}
 use Rattle.sem_flag.proofs.serving.serve_first_sem.Goals as goal

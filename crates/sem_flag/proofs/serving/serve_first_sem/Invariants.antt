@@ -1,6 +1,6 @@
 use Rattle.std.proofs.Common.{◌≡◌, drop}
-use Rattle.kernel_model.specs.Priority.{taken_from}
-use Rattle.kernel_model.specs.SemFlags.{first_served, serve_sem}
+use Rattle.kernel_model.specs.Words.Orders.{taken_from}
+use Rattle.kernel_model.specs.SemFlags.Tables.{first_served, serve_sem}
 use Rattle.sem_flag.specs.Parts.{parts_of}
 use Rattle.sem_flag.proofs.serving.serve_first_sem.Given as goal
 

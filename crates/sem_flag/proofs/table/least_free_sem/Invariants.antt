@@ -1,5 +1,5 @@
 use Rattle.std.proofs.Common.{◌≡◌, drop}
-use Rattle.kernel_model.specs.Orders.{free_from}
+use Rattle.kernel_model.specs.Words.Orders.{free_from}
 use Rattle.sem_flag.proofs.table.least_free_sem.Given as goal
 
 -- the least free ID of what is left is that of all

@@ -1,5 +1,5 @@
 use Rattle.std.proofs.Common.{◌≡◌, replicate}
-use Rattle.kernel_model.specs.SemFlags.{no_wish}
+use Rattle.kernel_model.specs.SemFlags.Tables.{no_wish}
 use Rattle.sem_flag.proofs.table.no_wishes.Given as goal
 
 abbrev pub invariant-tasks : goal.invariant-tasks

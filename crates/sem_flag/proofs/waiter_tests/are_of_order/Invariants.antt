@@ -1,6 +1,6 @@
 use Rattle.std.proofs.Common.{◌≡◌, ◌<◌, ℕ, true}
-use Rattle.kernel_model.specs.Base.{task_at, waits_for}
-use Rattle.kernel_model.specs.Queues.{queue_in}
+use Rattle.kernel_model.specs.Tasks.Base.{task_at, waits_for}
+use Rattle.kernel_model.specs.Tasks.Queues.{queue_in}
 use Rattle.sem_flag.proofs.waiter_tests.are_of_order.Given as goal
 
 -- those so far queue in that order

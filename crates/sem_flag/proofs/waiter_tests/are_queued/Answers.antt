@@ -2,8 +2,8 @@ use Rattle.std.proofs.Common.{rules, ◌≡◌, ◌<◌, ℕ, Some, true, ap, ar
 use Rattle.std.specs.Option.{is_some}
 use Rattle.kernel_model.specs.declared.objects.EventFlag.{EventFlag}
 use Rattle.kernel_model.specs.declared.objects.Semaphore.{Semaphore}
-use Rattle.kernel_model.specs.Queues.{AreOfOrder}
-use Rattle.kernel_model.specs.SemFlags.{flag_at, flag_object, sem_at, sem_object}
+use Rattle.kernel_model.specs.Tasks.Queues.{AreOfOrder}
+use Rattle.kernel_model.specs.SemFlags.Tables.{flag_at, flag_object, sem_at, sem_object}
 use Rattle.sem_flag.proofs.Looking.{inside, next_each}
 use Rattle.sem_flag.proofs.waiter_tests.are_queued.Goals as goal
 

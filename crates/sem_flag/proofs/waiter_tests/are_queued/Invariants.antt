@@ -1,8 +1,8 @@
 use Rattle.std.proofs.Common.{◌≡◌, ◌<◌, ℕ, Some}
 use Rattle.kernel_model.specs.declared.objects.EventFlag.{EventFlag}
 use Rattle.kernel_model.specs.declared.objects.Semaphore.{Semaphore}
-use Rattle.kernel_model.specs.Queues.{AreOfOrder}
-use Rattle.kernel_model.specs.SemFlags.{flag_at, flag_object, sem_at, sem_object}
+use Rattle.kernel_model.specs.Tasks.Queues.{AreOfOrder}
+use Rattle.kernel_model.specs.SemFlags.Tables.{flag_at, flag_object, sem_at, sem_object}
 use Rattle.sem_flag.proofs.waiter_tests.are_queued.Given as goal
 
 -- the waiters of those so far queue as they should

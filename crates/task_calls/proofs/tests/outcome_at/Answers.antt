@@ -4,11 +4,11 @@ use Rattle.std.specs.Prelude.{replicate}
 use Rattle.tk_types.specs.declared.task.Task.{Task}
 use Rattle.tk_types.specs.declared.task.Order.TheVariants.{Fifo}
 use Rattle.tk_types.specs.declared.task.Phase.TheVariants.{Ready}
-use Rattle.kernel_model.specs.Base.{Base, base_start, dispatch, waiting_in}
-use Rattle.kernel_model.specs.Orders.{entry}
-use Rattle.kernel_model.specs.Queues.{AreOfOrder, queue_in}
-use Rattle.kernel_model.proofs.Tables.{entry_each, entry_same}
-use Rattle.kernel_model.proofs.Tables.{none_there}
+use Rattle.kernel_model.specs.Tasks.Base.{Base, base_start, dispatch, waiting_in}
+use Rattle.kernel_model.specs.Words.Orders.{entry}
+use Rattle.kernel_model.specs.Tasks.Queues.{AreOfOrder, queue_in}
+use Rattle.kernel_lemmas.proofs.Tables.{entry_each, entry_same}
+use Rattle.kernel_lemmas.proofs.Tables.{none_there}
 use Rattle.task_calls.proofs.tests.outcome_at.Goals as goal
 
 -- a row of a task that waits for the object queues by the beginning of its wait

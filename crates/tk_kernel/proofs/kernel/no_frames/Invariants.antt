@@ -1,5 +1,5 @@
 use Rattle.std.proofs.Common.{◌≡◌, replicate}
-use Rattle.kernel_model.specs.State.{no_frame}
+use Rattle.first_machine.specs.State.{no_frame}
 use Rattle.tk_kernel.proofs.kernel.no_frames.Given as goal
 
 abbrev pub invariant-slots : goal.invariant-slots

@@ -1,8 +1,9 @@
 use Rattle.std.proofs.Common.{◌≡◌, ℕ, drop}
 use Rattle.std.specs.Prelude.{fold}
 use Rattle.std.specs.Option.{is_some}
-use Rattle.kernel_model.specs.Base.{task_at}
-use Rattle.kernel_model.specs.Priority.{refresh, taken_from}
+use Rattle.kernel_model.specs.Tasks.Base.{task_at}
+use Rattle.first_machine.specs.Priority.{refresh}
+use Rattle.kernel_model.specs.Words.Orders.{taken_from}
 use Rattle.tk_kernel.proofs.settling.resettle.Given as goal
 
 -- what is left to refresh comes to what all comes to, and no task came or went

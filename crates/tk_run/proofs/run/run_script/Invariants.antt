@@ -1,6 +1,6 @@
 -- What the sink took, and the text of what is to come, make the text of the trace.
 use Rattle.std.proofs.Common.{◌-◌}
-use Rattle.kernel_model.specs.Trace.{trace}
+use Rattle.first_machine.specs.Trace.{trace}
 use Rattle.tk_run.proofs.Runs.{IsTurning}
 use Rattle.tk_run.proofs.run.run_script.Given as goal
 

@@ -1,6 +1,6 @@
 use Rattle.std.proofs.Common.{Some, ap, ◌∙◌}
 use Rattle.tk_types.specs.declared.task.Task.{Task}
-use Rattle.kernel_model.specs.Base.{Base, waits_somewhere}
+use Rattle.kernel_model.specs.Tasks.Base.{Base, waits_somewhere}
 use Rattle.kernel_base.proofs.Waited.{idle_written, since_back}
 use Rattle.kernel_base.proofs.base.Base.create.Goals as goal
 

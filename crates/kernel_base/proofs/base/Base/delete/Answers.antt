@@ -1,5 +1,5 @@
 use Rattle.std.proofs.Common.{None, ap, refl, ◌∙◌}
-use Rattle.kernel_model.specs.Base.{Base}
+use Rattle.kernel_model.specs.Tasks.Base.{Base}
 use Rattle.kernel_base.proofs.Waited.{idle_written, since_without}
 use Rattle.kernel_base.proofs.base.Base.delete.Goals as goal
 

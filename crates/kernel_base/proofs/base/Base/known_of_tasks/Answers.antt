@@ -1,5 +1,5 @@
 use Rattle.std.proofs.Common.{subst}
-use Rattle.kernel_model.specs.Waits.{HavePlaces}
+use Rattle.kernel_model.specs.Tasks.Waits.{HavePlaces}
 use Rattle.kernel_base.proofs.base.Base.known_of_tasks.Goals as goal
 
 -- a queue's waiters have their places

@@ -1,6 +1,6 @@
 use Rattle.std.proofs.Common.{◌≡◌, drop, cond}
 use Rattle.std.specs.Prelude.{filter, slice_get}
-use Rattle.kernel_model.specs.Base.{is_ready_with}
+use Rattle.kernel_model.specs.Tasks.Base.{is_ready_with}
 use Rattle.kernel_base.specs.Queues.{behind, next_ready}
 use Rattle.kernel_base.proofs.base.Base.next_in_order.Given as goal
 

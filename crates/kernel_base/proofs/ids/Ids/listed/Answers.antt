@@ -1,5 +1,5 @@
 use Rattle.std.proofs.Common.{ap, arith, length}
-use Rattle.kernel_model.proofs.Once.{few_below}
+use Rattle.kernel_lemmas.proofs.Once.{few_below}
 use Rattle.kernel_base.proofs.ids.Ids.listed.Goals as goal
 
 pub copied-requires : goal.copied-requires

@@ -1,6 +1,6 @@
 use Rattle.std.proofs.Common.{◌≡◌, ◌-◌}
-use Rattle.kernel_model.specs.Ticks.{due_done}
-use Rattle.kernel_model.specs.Waits.{IsOrderly}
+use Rattle.first_machine.specs.Ticks.{due_done}
+use Rattle.first_machine.specs.Waits.{IsOrderly}
 use Rattle.tk_kernel.proofs.kernel.Kernel.end_due.Given as goal
 
 -- what is left to do comes to what all comes to, and each task that waits stands in its order

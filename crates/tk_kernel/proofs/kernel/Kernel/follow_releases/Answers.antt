@@ -1,5 +1,5 @@
 use Rattle.std.proofs.Common.{◌∙◌, sym}
-use Rattle.kernel_model.specs.Settle.{with_releases}
+use Rattle.first_machine.specs.Settle.{with_releases}
 use Rattle.tk_kernel.specs.contracts.kernel.Kernel.{the_view}
 use Rattle.tk_kernel.proofs.Following.{followed_more, followed_all, fewer_left}
 use Rattle.tk_kernel.proofs.kernel.Kernel.follow_releases.Goals as goal

@@ -1,5 +1,5 @@
 use Rattle.std.proofs.Common.{◌≡◌, ◌++◌, length}
-use Rattle.kernel_model.specs.Settle.{with_releases}
+use Rattle.first_machine.specs.Settle.{with_releases}
 use Rattle.tk_kernel.proofs.Following.{left_to_follow}
 use Rattle.tk_kernel.proofs.kernel.Kernel.follow_releases.Given as goal
 

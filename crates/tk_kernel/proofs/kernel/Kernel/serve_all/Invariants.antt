@@ -1,7 +1,7 @@
 use Rattle.std.proofs.Common.{◌≡◌, ◌-◌}
-use Rattle.kernel_model.specs.Rest.{AreUpToDate}
-use Rattle.kernel_model.specs.Settle.{served_within}
-use Rattle.kernel_model.specs.Waits.{IsOrderly}
+use Rattle.first_machine.specs.Rest.{AreUpToDate}
+use Rattle.first_machine.specs.Settle.{served_within}
+use Rattle.first_machine.specs.Waits.{IsOrderly}
 use Rattle.tk_kernel.proofs.kernel.Kernel.serve_all.Given as goal
 
 -- what is left to serve comes to what all comes to; each task that waits stands in its order, and each current priority is

@@ -1,8 +1,8 @@
 use Rattle.std.proofs.Common.{◌∙◌, ap, sym}
 use Rattle.std.specs.Prelude.{unwrap_or}
 use Rattle.std.specs.Option.{is_some}
-use Rattle.kernel_model.specs.Settle.{serve_first}
-use Rattle.kernel_model.specs.State.{State}
+use Rattle.first_machine.specs.Settle.{serve_first}
+use Rattle.first_machine.specs.State.{State}
 use Rattle.tk_kernel.specs.contracts.kernel.Kernel.{the_view}
 use Rattle.tk_kernel.proofs.Serving.{first_is, first_left}
 use Rattle.tk_kernel.proofs.kernel.Kernel.serve_first.Goals as goal

@@ -1,5 +1,5 @@
 use Rattle.std.proofs.Common.{◌∙◌, ap, sym, arith}
-use Rattle.kernel_model.specs.Settle.{served_within}
+use Rattle.first_machine.specs.Settle.{served_within}
 use Rattle.tk_kernel.proofs.Serving.{refreshed_orderly, served_more, served_orderly, served_over, served_spent, settle_is}
 use Rattle.tk_kernel.proofs.kernel.Kernel.settle.Goals as goal
 

@@ -1,6 +1,6 @@
 use Rattle.std.proofs.Common.{◌≡◌, ◌-◌}
-use Rattle.kernel_model.specs.Settle.{refreshed, served_within}
-use Rattle.kernel_model.specs.Waits.{IsOrderly}
+use Rattle.first_machine.specs.Settle.{refreshed, served_within}
+use Rattle.first_machine.specs.Waits.{IsOrderly}
 use Rattle.tk_kernel.proofs.kernel.Kernel.settle.Given as goal
 
 -- what is left to serve comes to what all comes to, and each task that waits stands in its order

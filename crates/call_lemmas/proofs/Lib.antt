@@ -1,0 +1,5 @@
+pub mod Checked
+pub mod Picks
+pub mod Serving
+pub mod TimeOuts
+pub mod Trial

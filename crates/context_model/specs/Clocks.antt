@@ -1,0 +1,1 @@
+-- System time, cyclic and alarm handlers.

@@ -1,0 +1,1 @@
+-- Interrupt handlers, what delays dispatching, and subsystems.

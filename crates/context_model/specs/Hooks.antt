@@ -1,0 +1,1 @@
+-- Hooks, and the calls that list objects and queues.

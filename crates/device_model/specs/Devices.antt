@@ -1,0 +1,1 @@
+-- Devices, descriptors, requests and their endings.

@@ -1,0 +1,1 @@
+-- What the unit of a device does with a request.

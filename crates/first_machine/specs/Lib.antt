@@ -1,0 +1,15 @@
+pub mod Priority
+pub mod Objects
+pub mod State
+pub mod Settle
+pub mod Paragraph
+pub mod Waits
+pub mod Rest
+pub mod Calls
+pub mod Ticks
+pub mod TickTimes
+pub mod Step
+pub mod Counts
+pub mod Trace
+pub mod Machine
+pub mod Rows

@@ -1,0 +1,9 @@
+pub mod Filters
+pub mod Moves
+pub mod Once
+pub mod Places
+pub mod Queues
+pub mod ReadyLists
+pub mod Releases
+pub mod Sorting
+pub mod Tables

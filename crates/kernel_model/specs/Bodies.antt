@@ -1,0 +1,2 @@
+-- The bodies of a script: their frames, and what a statement does.
+pub mod Statements

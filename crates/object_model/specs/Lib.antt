@@ -1,0 +1,3 @@
+pub mod Mutexes
+pub mod Mails
+pub mod Pools

@@ -1,0 +1,1 @@
+-- Mutexes, and the current priority of a task.
