@@ -1,20 +1,34 @@
 //! Laws of the definitions, each the contract of a function that does nothing.
 
-ghost use Rattle.std.specs.Prelude.{◌≡◌, ℕ, suc, ◌+◌, ◌<◌, ◌≤◌, ◌==◌, if◌then◌else◌, false, true, pos, List, ◌∷◌, ◌++◌, ◌⊎◌, Some};
+ghost use Rattle.std.specs.Prelude.{◌≡◌, ℕ, suc, ◌+◌, ◌<◌, ◌≤◌, ◌==◌, if◌then◌else◌, false, true, ℤ, pos, List, length, [], ◌∷◌, ◌++◌, ◌⊎◌, None, Some};
 ghost use Rattle.tk_types.specs.declared.answer.Who.TheVariants as whos;
+ghost use Rattle.tk_types.specs.declared.calls.Call.{Call};
 ghost use Rattle.tk_types.specs.declared.error_code.Er.TheVariants as er;
+ghost use Rattle.tk_types.specs.declared.script.Script.{Script};
 ghost use Rattle.tk_types.specs.declared.task.DueEvent.{DueEvent};
 ghost use Rattle.tk_types.specs.declared.task.Order.{Order};
 ghost use Rattle.tk_types.specs.declared.task.Task.{Task};
-ghost use Rattle.kernel_model.specs.Tasks.Base.{current, dispatch, is_ready, is_waiting, make_wait, task_at};
-ghost use Rattle.kernel_model.specs.Words.Events.{insert_event};
+ghost use Rattle.kernel_model.specs.declared.objects.EventFlag.{EventFlag};
+ghost use Rattle.kernel_model.specs.declared.objects.FlagWish.{FlagWish};
+ghost use Rattle.kernel_model.specs.declared.objects.Semaphore.{Semaphore};
+ghost use Rattle.kernel_model.specs.Tasks.Base.{Base, chosen, current, dispatch, is_ready, is_waiting, make_wait, task_at, waits_for};
+ghost use Rattle.first_machine.specs.Calls.{called, changes_priority};
+ghost use Rattle.kernel_model.specs.Words.Events.{insert_event, limit_of};
+ghost use Rattle.first_machine.specs.Objects.{serve_object};
+ghost use Rattle.first_machine.specs.Paragraph.{flag_paragraph, sem_paragraph};
 ghost use Rattle.kernel_model.specs.LawWords.Precedence.{KeepsPlace};
 ghost use Rattle.first_machine.specs.Priority.{current_of};
-ghost use Rattle.first_machine.specs.Settle.{settle};
+ghost use Rattle.first_machine.specs.Rest.{IsAtRest};
+ghost use Rattle.kernel_model.specs.SemFlags.Calls.{waited_for_flag, waited_for_sem};
+ghost use Rattle.kernel_model.specs.SemFlags.Tables.{SemFlagParts, SemFlags, flag_at, sem_at, serve_flag, serve_sem};
+ghost use Rattle.first_machine.specs.Settle.{followed, settle};
 ghost use Rattle.first_machine.specs.State.{State};
 ghost use Rattle.first_machine.specs.Ticks.{tick_state};
-ghost use Rattle.kernel_model.specs.LawWords.TimeOrder.{AreInTimeOrder, AreLater};
+ghost use Rattle.kernel_model.specs.LawWords.TimeOrder.{AreInTimeOrder, AreLater, ComesAfter};
 ghost use Rattle.first_machine.specs.TickTimes.{after_ticks};
+ghost use Rattle.first_machine.specs.Trace.{start, state_after};
+ghost use Rattle.kernel_model.specs.SemFlags.Trial.{MayWait};
+ghost use Rattle.kernel_model.specs.LawWords.Waiters.{waiting_count};
 
 /// A task that is preempted keeps its place: a task that makes a call and stays ready, with the priority that it
 /// has, stays the first of its equals, unless the call gives its place away by what it means, which none on semaphores
@@ -39,6 +53,24 @@ pub fn time_outs_fall_due_in_their_tick()
         is_waiting (after_ticks (suc n) (record st { base = make_wait st.base t object order (pos n) })).base t ≡ false }
 {}
 
+/// A tick ends the waits whose time has come, and otherwise only those that are served: one that makes an earlier time
+/// than that of a wait's end, and every tick where a wait has no limit, leaves it set and its task waiting, or the task is
+/// served, which ends a wait for an object from 64 on alone, a semaphore or an event flag. A tick that makes the time of a
+/// wait's end ends the wait.
+pub fn a_tick_ends_the_waits_whose_time_has_come()
+    ensures stays_set { (st : State) (t object : ℕ) → waits_for st.base object t ≡ true → object < 64 →
+        ComesAfter (st.base.time + 1) (limit_of t st.base.events) →
+        limit_of t (tick_state st).base.events ≡ limit_of t st.base.events }
+    ensures waits_on { (st : State) (t object : ℕ) → waits_for st.base object t ≡ true → object < 64 →
+        ComesAfter (st.base.time + 1) (limit_of t st.base.events) →
+        waits_for (tick_state st).base object t ≡ true }
+    ensures served_or_waits_on { (st : State) (t : ℕ) → ComesAfter (st.base.time + 1) (limit_of t st.base.events) →
+        ((limit_of t (tick_state st).base.events ≡ limit_of t st.base.events) × (is_waiting (tick_state st).base t ≡ is_waiting st.base t))
+        ⊎ (is_waiting (tick_state st).base t ≡ false) }
+    ensures is_over { (st : State) (t due : ℕ) → AreInTimeOrder st.base.events → limit_of t st.base.events ≡ Some due → due ≤ st.base.time + 1 →
+        is_waiting (tick_state st).base t ≡ false }
+{}
+
 /// What is set falls due in order: nothing is due while all that is set is later, and the first is once its time has
 /// come. What is set takes its place behind all that falls due by its time, so that of equals the one made first comes
 /// first, and what was in order stays so. A tick leaves nothing that falls due by the time that it makes, and the rest
@@ -47,4 +79,59 @@ pub fn events_fall_due_in_order()
     ensures set_in_order { (event : DueEvent) (events : List DueEvent) → AreInTimeOrder events → AreInTimeOrder (insert_event event events) }
     ensures tick_in_order { (st : State) → AreInTimeOrder st.base.events → AreInTimeOrder (tick_state st).base.events }
     ensures tick { (st : State) → AreInTimeOrder st.base.events → AreLater (st.base.time + 1) (tick_state st).base.events }
+{}
+
+/// Priorities change by `tk_chg_pri` alone: where each task's current priority is that of its definition, it still is after
+/// any other call of a task, so that settling has none to take over.
+pub fn priorities_change_by_one_call()
+    ensures { (n : ℕ) (st : State) (t : ℕ) (call : Call) → changes_priority call ≡ false →
+        ((u : ℕ) → 1 ≤ u → current st.base u ≡ current_of st.base u) →
+        (u : ℕ) → 1 ≤ u → current (called n st t call).state.base u ≡ current_of (called n st t call).state.base u }
+{}
+
+/// A waiting call does what the paragraph on waiting calls says, with the whole of settling: the caller joins the waiters,
+/// and settling follows; if that ended the caller's wait the call returns and the caller has its old stamp, and if not,
+/// with a time-out of 0 everything is as before the call and the answer is E_TMOUT, and else the task waits. That holds on
+/// every settled state: nobody can be served, and each current priority is that of its definition. The caller is ready and
+/// has a place in the table of what tasks ask for; the table of semaphores has 65 slots at most, so that none has the
+/// number of an event flag, and the IDs of objects and tasks begin at 1.
+pub fn a_waiting_call_is_the_paragraph()
+    ensures semaphore { (st : State) (t id n : ℕ) (timeout : ℤ) (k : Semaphore) → MayWait st.base t →
+        sem_at st.objects.sem_flags id ≡ Some k → 1 ≤ id → length st.objects.sem_flags.sems ≤ 65 → t < length st.objects.sem_flags.counts →
+        serve_object st.base st.objects ≡ None → ((u : ℕ) → 1 ≤ u → current st.base u ≡ current_of st.base u) →
+        waited_for_sem st.base st.objects.sem_flags t id n timeout (Some k) ≡ sem_paragraph st t id n timeout k }
+    ensures event_flag { (st : State) (t id : ℕ) (wish : FlagWish) (timeout : ℤ) (k : EventFlag) → MayWait st.base t →
+        flag_at st.objects.sem_flags id ≡ Some k → 1 ≤ id → length st.objects.sem_flags.sems ≤ 65 → t < length st.objects.sem_flags.wishes →
+        serve_object st.base st.objects ≡ None → ((u : ℕ) → 1 ≤ u → current st.base u ≡ current_of st.base u) →
+        waited_for_flag st.base st.objects.sem_flags t id wish timeout (Some k) ≡ flag_paragraph st t id wish timeout k }
+{}
+
+/// After settling nobody can be served: neither a semaphore nor an event flag has a waiter whose wait it could end. That
+/// holds after any settling over a table of up to 256 slots, and in every state that a run reaches, since what follows
+/// settling in a step changes nothing that a serving reads. Each serving ends one wait and no more, so that one task fewer
+/// waits than before, and taking over a changed priority ends and begins none; so as many servings as there are slots are
+/// enough. Each task's current priority is that of its definition then, and in every state that a run reaches; the IDs of
+/// tasks begin at 1.
+pub fn settling_serves_until_none_can_be()
+    ensures semaphore { (b : Base) (s : SemFlags) (id : ℕ) (parts : SemFlagParts) → serve_sem b s id ≡ Some parts →
+        waiting_count b ≡ waiting_count parts.base + 1 }
+    ensures event_flag { (b : Base) (s : SemFlags) (id : ℕ) (parts : SemFlagParts) → serve_flag b s id ≡ Some parts →
+        waiting_count b ≡ waiting_count parts.base + 1 }
+    ensures none_left { (st : State) → length st.base.tasks ≤ 256 → serve_object (settle st).base (settle st).objects ≡ None }
+    ensures priorities { (st : State) (t : ℕ) → 1 ≤ t → current (settle st).base t ≡ current_of (settle st).base t }
+    ensures reached { (script : Script) (budget n : ℕ) →
+        serve_object (state_after script budget n).base (state_after script budget n).objects ≡ None }
+    ensures reached_priorities { (script : Script) (budget n t : ℕ) → 1 ≤ t →
+        current (state_after script budget n).base t ≡ current_of (state_after script budget n).base t }
+{}
+
+/// From a state at rest nothing follows: where it has settled, no end of a wait is left to take, and the chosen task is the
+/// current one, an event that touched neither the base nor the objects is followed by no change and no line. The start is at
+/// rest, and all that follows an event leaves a state at rest.
+pub fn nothing_follows_from_a_state_at_rest()
+    ensures nothing { (script : Script) (n : ℕ) (st : State) → IsAtRest st.base st.objects →
+        followed script n st ≡ record { state = st; lines = [] } }
+    ensures start { (script : Script) → IsAtRest (start script).state.base (start script).state.objects }
+    ensures comes { (script : Script) (n : ℕ) (st : State) → length st.base.tasks ≤ 256 →
+        IsAtRest (followed script n st).state.base (followed script n st).state.objects }
 {}
