@@ -13,13 +13,12 @@ use Rattle.tk_types.specs.declared.calls.ContextCall.{ContextCall}
 use Rattle.tk_types.specs.declared.calls.ContextCall.TheVariants as contexts
 use Rattle.tk_types.specs.declared.line.Hook.TheVariants as hooks
 use Rattle.tk_types.specs.declared.line.Line.TheVariants as lines
-use Rattle.tk_types.specs.declared.task.Event.{Event as DueKind}
 use Rattle.tk_types.specs.declared.task.Event.TheVariants as dues
 use Rattle.kernel_model.specs.Words.Orders.{without}
 use Rattle.kernel_model.specs.Words.Checks.{natural, plain, within}
 use Rattle.kernel_model.specs.Tasks.Base.{delete, set_flags}
 use Rattle.kernel_model.specs.Bodies.Statements.{give, start_frame}
-use Rattle.context_model.specs.Clocks.Tables.{is_alarm_of, is_cyclic_of}
+use Rattle.context_model.specs.Clocks.Tables.{is_event}
 use Rattle.context_model.specs.Contexts.Tables.{depth_in, left}
 use Rattle.machine_model.specs.States.State.{State, frame_of, save_place, saved_frame, with_frame}
 use Rattle.machine_model.specs.Events.Follow.{Event, hooked}
@@ -48,8 +47,8 @@ begun st t _ value = st
 
 -- a handler that is deleted doesn't start any more, though it was due
 abbrev pub withdrawn : State → TimeCall → State
-withdrawn st (times.DelCyc id) = record st { due = filter (λ what. not (is_cyclic_of (natural id) what)) st.due }
-withdrawn st (times.DelAlm id) = record st { due = filter (λ what. not (is_alarm_of (natural id) what)) st.due }
+withdrawn st (times.DelCyc id) = record st { due = filter (λ what. not (is_event (dues.Cyclic (natural id)) what)) st.due }
+withdrawn st (times.DelAlm id) = record st { due = filter (λ what. not (is_event (dues.Alarm (natural id)) what)) st.due }
 withdrawn st _ = st
 
 -- an interrupt whose handler is taken away is no longer pending

@@ -1,11 +1,10 @@
 -- Interrupts that become pending, and the starts of handlers.
-use Rattle.std.specs.Prelude.{ℕ, ◌==◌, Bool, nat_lt, if◌then◌else◌, pos, true, List, [], ◌∷◌, drop, filter, fold}
+use Rattle.std.specs.Prelude.{ℕ, ◌==◌, nat_lt, if◌then◌else◌, pos, List, [], ◌∷◌, drop, filter, fold, unwrap_or}
 use Rattle.tk_types.specs.declared.line.HandlerKind.{HandlerKind}
 use Rattle.tk_types.specs.declared.line.HandlerKind.TheVariants as handlers
 use Rattle.tk_types.specs.declared.line.Hook.TheVariants as hooks
 use Rattle.tk_types.specs.declared.line.Line.TheVariants as lines
 use Rattle.tk_types.specs.declared.script.Script.{Script}
-use Rattle.tk_types.specs.declared.script.Interrupt.{Interrupt}
 use Rattle.tk_types.specs.declared.task.Event.{Event as DueKind}
 use Rattle.tk_types.specs.declared.task.Event.TheVariants as dues
 use Rattle.kernel_model.specs.Words.Orders.{without}
@@ -46,8 +45,8 @@ handler_begun n st kind number body = record {
 
 -- the first handler that is due starts; the end of a wait is none
 unfoldable pub due_begun : ℕ → State → DueKind → Event
-due_begun n st (dues.Cyclic id) = handler_begun n st handlers.Cyclic id (body_of st.objects.clocks (dues.Cyclic id))
-due_begun n st (dues.Alarm id) = handler_begun n st handlers.Alarm id (body_of st.objects.clocks (dues.Alarm id))
+due_begun n st (dues.Cyclic id) = handler_begun n st handlers.Cyclic id (unwrap_or (body_of st.objects.clocks (dues.Cyclic id)) 0)
+due_begun n st (dues.Alarm id) = handler_begun n st handlers.Alarm id (unwrap_or (body_of st.objects.clocks (dues.Alarm id)) 0)
 due_begun n st (dues.Wait t) = record { state = st; lines = [] }
 
 -- the handlers that are due, without the first
