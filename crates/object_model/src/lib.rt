@@ -2,4 +2,6 @@
 //! them, a folder for each family of calls. There is no other code than the types that the rules name.
 #![tactic(auto)]
 
+pub mod mails;
 pub mod mutexes;
+pub mod pools;
