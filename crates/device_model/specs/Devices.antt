@@ -1,1 +1,4 @@
 -- Devices, descriptors, requests and their endings.
+pub mod Tables
+pub mod Memory
+pub mod Handing
