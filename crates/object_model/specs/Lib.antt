@@ -1,3 +1,4 @@
+pub mod Servings
 pub mod Mutexes
 pub mod Mails
 pub mod Pools
