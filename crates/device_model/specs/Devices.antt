@@ -2,3 +2,8 @@
 pub mod Tables
 pub mod Memory
 pub mod Handing
+pub mod Endings
+pub mod Requests
+pub mod Suspension
+pub mod Servings
+pub mod Orders
