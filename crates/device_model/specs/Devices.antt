@@ -6,4 +6,5 @@ pub mod Endings
 pub mod Requests
 pub mod Suspension
 pub mod Servings
+pub mod Calls
 pub mod Orders
