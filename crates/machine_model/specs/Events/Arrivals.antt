@@ -10,8 +10,8 @@ use Rattle.tk_types.specs.declared.line.LineEnding.TheVariants as endings
 use Rattle.tk_types.specs.declared.run.Mode.{Mode}
 use Rattle.tk_types.specs.declared.script.Script.{Script}
 use Rattle.tk_types.specs.Codes.{code_of}
-use Rattle.device_model.specs.Devices.Tables.{DevParts}
-use Rattle.device_model.specs.Devices.Arrivals.{Ending, arrive}
+use Rattle.device_model.specs.declared.messages.Ending.{Ending}
+use Rattle.device_model.specs.Devices.Endings.{DevParts, arrive}
 use Rattle.machine_model.specs.States.Objects.{dev_parts, with_devices}
 use Rattle.machine_model.specs.States.State.{State, parts_of, with_parts}
 use Rattle.machine_model.specs.Events.Follow.{Event, behind, followed}

@@ -25,8 +25,7 @@ use Rattle.context_model.specs.Contexts.Tables.{left}
 use Rattle.context_model.specs.Contexts.Calls.{ContextDone, context_call}
 use Rattle.context_model.specs.Hooks.Tables.{Views}
 use Rattle.context_model.specs.Hooks.Calls.{HookDone, hook_call}
-use Rattle.device_model.specs.Devices.Tables.{DevDone}
-use Rattle.device_model.specs.Devices.Calls.{device_call}
+use Rattle.device_model.specs.Devices.Calls.{DevDone, device_call}
 use Rattle.machine_model.specs.States.Objects.{dev_parts, mail_parts, pool_parts, with_devices}
 use Rattle.machine_model.specs.States.State.{State, frame_of, parts_of, who_of, with_frame, with_parts}
 use Rattle.machine_model.specs.Events.Settle.{freed}

@@ -1,6 +1,5 @@
 -- What follows each event: settling, the lines of the waits that ended, and the dispatch.
-use Rattle.std.specs.Prelude.{ℕ, Bool, true, false, not, ◌||◌, List, [], ◌∷◌, ◌++◌, Option, Some, None}
-use Rattle.std.specs.List.{is_empty}
+use Rattle.std.specs.Prelude.{ℕ, Bool, true, false, not, ◌||◌, ◌==◌, length, List, [], ◌∷◌, ◌++◌, Option, Some, None}
 use Rattle.tk_types.specs.declared.script.Script.{Script}
 use Rattle.tk_types.specs.declared.call_name.CallName.{CallName}
 use Rattle.tk_types.specs.declared.run.Mode.{Mode}
@@ -57,7 +56,7 @@ with_releases script n st = follow_each script n (record st { base = record st.b
 -- dispatching is delayed while a handler runs, while one that is due waits to start, while dispatching is disabled, and
 -- while interrupts are
 abbrev pub delays : State → Bool
-delays st = st.base.flags.handler || (not (is_empty st.due) || (st.base.flags.dispatch_off || st.base.flags.di))
+delays st = st.base.flags.handler || (not (length st.due == 0) || (st.base.flags.dispatch_off || st.base.flags.di))
 
 abbrev pub turned : Bool → ℕ → State → Event
 turned true n st = record { state = st; lines = [] }

@@ -1,5 +1,5 @@
 -- Interrupts that become pending, and the starts of handlers.
-use Rattle.std.specs.Prelude.{ℕ, ◌==◌, nat_lt, if◌then◌else◌, pos, List, [], ◌∷◌, drop, filter, fold, unwrap_or}
+use Rattle.std.specs.Prelude.{ℕ, ◌==◌, nat_lt, true, if◌then◌else◌, pos, List, [], ◌∷◌, drop, filter, fold, unwrap_or}
 use Rattle.tk_types.specs.declared.line.HandlerKind.{HandlerKind}
 use Rattle.tk_types.specs.declared.line.HandlerKind.TheVariants as handlers
 use Rattle.tk_types.specs.declared.line.Hook.TheVariants as hooks

@@ -7,7 +7,7 @@ use Rattle.tk_types.specs.declared.run.End.{End}
 use Rattle.tk_types.specs.declared.run.End.TheVariants as ends
 use Rattle.tk_types.specs.declared.line.Line.{Line}
 use Rattle.tk_types.specs.declared.line.Line.TheVariants as lines
-use Rattle.device_model.specs.Devices.Arrivals.{Ending}
+use Rattle.device_model.specs.declared.messages.Ending.{Ending}
 use Rattle.machine_model.specs.States.State.{State}
 use Rattle.machine_model.specs.Events.Follow.{Event}
 use Rattle.machine_model.specs.Events.Arrivals.{arrived}

@@ -1,7 +1,7 @@
 -- A step of the machine: what becomes pending at it, what is done, and all that follows; and what the machine does where
 -- nothing is left to do.
-use Rattle.std.specs.Prelude.{ℕ, ◌+◌, ◌%◌, Bool, true, false, not, ◌==◌, ◌&&◌, ◌||◌, nat_lt, nat_le, if◌then◌else◌, List, [], ◌∷◌, Option, Some, None}
-use Rattle.std.specs.List.{is_empty, list_any}
+use Rattle.std.specs.Prelude.{ℕ, ◌+◌, ◌%◌, Bool, true, false, not, ◌==◌, ◌&&◌, ◌||◌, nat_lt, nat_le, if◌then◌else◌, length, List, [], ◌∷◌, Option, Some, None}
+use Rattle.std.specs.List.{list_any}
 use Rattle.tk_types.specs.declared.script.Script.{Script}
 use Rattle.tk_types.specs.declared.run.Mode.{Mode}
 use Rattle.tk_types.specs.declared.run.Mode.TheVariants as modes
@@ -51,11 +51,11 @@ end_after false false = None
 
 -- no handler runs or is due, no tick and no interrupt is pending, and no task is ready
 abbrev pub is_quiet : State → Bool
-is_quiet st = not st.base.flags.handler && (is_empty st.due && (st.ticks == 0 && (is_empty st.pending && chosen st.base == 0)))
+is_quiet st = not st.base.flags.handler && (length st.due == 0 && (st.ticks == 0 && (length st.pending == 0 && chosen st.base == 0)))
 
 -- something is set for a time, or an interrupt of this step or a later one is to come
 abbrev pub has_event : Script → ℕ → State → Bool
-has_event script n st = not (is_empty st.base.events) || list_any (λ irq. nat_le n irq.step) script.irqs
+has_event script n st = not (length st.base.events == 0) || list_any (λ irq. nat_le n irq.step) script.irqs
 
 -- in sync mode the first queued request of the least device goes to its driver, one at a time
 abbrev pub with_first_handed : State → State

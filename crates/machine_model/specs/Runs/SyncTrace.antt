@@ -1,6 +1,8 @@
 -- The run of sync mode, in which each ending that is needed is that of a request done whole: what it writes depends on the
 -- script and the budget alone.
-use Rattle.std.specs.Prelude.{ℕ, zero, suc, ◌+◌, ◌*◌, if◌then◌else◌, List, [], ◌∷◌, ◌++◌, Option, Some, None}
+use Rattle.std.specs.Prelude.{ℕ, zero, suc, ◌+◌, ◌*◌, if◌then◌else◌, List, [], ◌∷◌, ◌++◌, Option, Some, None, unwrap_or}
+use Rattle.std.specs.List.{find}
+use Rattle.std.specs.Option.{is_some}
 use Rattle.tk_types.specs.declared.script.Script.{Script}
 use Rattle.tk_types.specs.declared.run.Mode.TheVariants as modes
 use Rattle.tk_types.specs.declared.run.End.{End}
@@ -9,8 +11,9 @@ use Rattle.tk_types.specs.declared.line.Entry.{Entry}
 use Rattle.tk_types.specs.declared.line.How.TheVariants as hows
 use Rattle.tk_types.specs.declared.line.Line.{Line}
 use Rattle.tk_types.specs.declared.line.LastLine.TheVariants as lasts
-use Rattle.device_model.specs.Devices.Arrivals.{Ending, expected}
-use Rattle.device_model.specs.Devices.Handing.{first_given}
+use Rattle.device_model.specs.declared.messages.Ending.{Ending}
+use Rattle.device_model.specs.Devices.Endings.{expected}
+use Rattle.device_model.specs.Devices.Tables.{Devices, at_driver, device_ids}
 use Rattle.machine_model.specs.States.State.{State}
 use Rattle.machine_model.specs.Events.Follow.{Event}
 use Rattle.machine_model.specs.Events.Arrivals.{arrived}
@@ -35,6 +38,10 @@ entry_of n e = record { place = n; device = e.device; request = e.request; how =
 
 abbrev pub with_entry : Entry → SyncRun → SyncRun
 with_entry entry run = record run { entries = entry ∷ run.entries }
+
+-- the least device whose driver has a request, or 0
+abbrev pub first_given : Devices → ℕ
+first_given devices = unwrap_or (find (λ d. is_some (at_driver devices d)) (device_ids devices)) 0
 
 -- the ending of the request that is with a driver, done whole
 abbrev pub needed_ending : State → Option Ending

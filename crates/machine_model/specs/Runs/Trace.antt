@@ -11,7 +11,8 @@ use Rattle.tk_types.specs.declared.line.Line.{Line}
 use Rattle.tk_types.specs.declared.line.Line.TheVariants as lines
 use Rattle.tk_types.specs.declared.line.LastLine.{LastLine}
 use Rattle.tk_types.specs.declared.line.LastLine.TheVariants as lasts
-use Rattle.device_model.specs.Devices.Arrivals.{Ending, expected}
+use Rattle.device_model.specs.declared.messages.Ending.{Ending}
+use Rattle.device_model.specs.Devices.Endings.{expected}
 use Rattle.machine_model.specs.States.State.{State, state_start}
 use Rattle.machine_model.specs.Events.Follow.{Event, dispatched}
 use Rattle.machine_model.specs.Events.Arrivals.{arrived}

@@ -13,8 +13,9 @@ use Rattle.object_model.specs.Pools.Fixed.{serve_fixed_pools}
 use Rattle.object_model.specs.Pools.Variable.{serve_variable_pools}
 use Rattle.context_model.specs.Clocks.Tables.{Clocks, clocks_start}
 use Rattle.context_model.specs.Contexts.Tables.{Contexts, contexts_start}
-use Rattle.device_model.specs.Devices.Tables.{Devices, DevParts, devices_start}
-use Rattle.device_model.specs.Devices.Serving.{serve_acceptances, serve_endings, serve_closes, serve_suspension}
+use Rattle.device_model.specs.Devices.Tables.{Devices, devices_start}
+use Rattle.device_model.specs.Devices.Endings.{DevParts}
+use Rattle.device_model.specs.Devices.Servings.{serve_acceptances, serve_endings, serve_closes, serve_suspension}
 
 pub record Objects : Type 0 where
   pub sem_flags : SemFlags  -- semaphores and event flags

@@ -24,7 +24,7 @@ order_for o object =
     if nat_lt object 2
     then Some Fifo
     else or_order (sem_flag_order o.sem_flags object)
-        (or_order (mutex_order o.mutexes object) (or_order (mail_order o.mails object) (or_order (pool_order o.pools object) (device_order o.devices object))))
+    (or_order (mutex_order o.mutexes object) (or_order (mail_order o.mails object) (or_order (pool_order o.pools object) (device_order object))))
 
 -- each task that waits stands in the queue of an object that there is, in its order
 abbrev pub IsOrderly : Base → Objects → Type 0
