@@ -4,12 +4,18 @@ use Rattle.std.specs.Prelude.{slice_set}
 use Rattle.std.specs.Bool.{◌==◌}
 use Rattle.std.specs.List.{find}
 use Rattle.std.specs.Option.{option_map, option_or}
+use Rattle.std.proofs.lemmas.Bool.Decides.{nat_tests}
+use Rattle.tk_types.specs.declared.answer.Answer.{Answer}
 use Rattle.tk_types.specs.declared.task.Order.{Order}
+use Rattle.tk_types.specs.declared.task.Phase.{Phase}
+use Rattle.tk_types.specs.declared.task.Phase.TheVariants.{Dormant, Ready, Waiting}
+use Rattle.tk_types.specs.declared.task.Task.{Task}
 use Rattle.kernel_model.specs.LawWords.Once.{times}
 use Rattle.kernel_model.specs.Words.Orders.{entry, taken_from}
-use Rattle.kernel_model.specs.Tasks.Base.{Base, queue, waits_for}
+use Rattle.kernel_model.specs.Tasks.Base.{Base, queue, release, task_at, waiting_in, waits_for, waits_in}
 use Rattle.object_model.specs.Servings.{first_serving}
 use Rattle.kernel_lemmas.proofs.Tables.{entry_each, entry_there, itself}
+use Rattle.kernel_lemmas.proofs.Releases.{release_others}
 use Rattle.call_lemmas.proofs.Picks.{apart_from_first, apart_from_rest}
 use Rattle.call_lemmas.proofs.Serving.{queue_absent}
 
@@ -81,3 +87,20 @@ order_written order slots id k now at same other =
 pub choice_same : {A : Type 0} → (test : Bool) (a b c d : A) → a ≡ c → b ≡ d → cond test a b ≡ cond test c d
 choice_same true a b c d one two = one
 choice_same false a b c d one two = two
+
+-- ---- two tasks that wait
+
+one_object : (x y : ℕ) (phase : Phase) → waits_in x phase ≡ true → waits_in y phase ≡ true → x ≡ y
+one_object x y Dormant first second = absurd (cc first)
+one_object x y Ready first second = absurd (cc first)
+one_object x y (Waiting object) first second = let a : object ≡ x = grind (arith, nat_tests, first) in let b : object ≡ y = grind (arith, nat_tests, second) in sym a ∙ b
+
+one_row : (x y : ℕ) (o : Option Task) → waiting_in x o ≡ true → waiting_in y o ≡ true → x ≡ y
+one_row x y None first second = absurd (cc first)
+one_row x y (Some k) first second = one_object x y k.phase first second
+
+-- where two tasks wait for different objects, the end of the one's wait leaves the other waiting
+pub waits_on : (b : Base) (t u x y : ℕ) (answer : Answer) → waits_for b x t ≡ true → waits_for b y u ≡ true → (x ≡ y → ⊥) → waits_for (release b t answer) y u ≡ true
+waits_on b t u x y answer first second apart =
+    let others : (u ≡ t → ⊥) = λ same. apart (one_row x y (task_at b t) first (subst (λ (v : ℕ). waits_for b y v ≡ true) same second)) in
+    ap (waiting_in y) (release_others b t u answer others) ∙ second

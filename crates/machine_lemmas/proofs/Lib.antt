@@ -1,3 +1,5 @@
 pub mod Weights
 pub mod Changes
 pub mod Finding
+pub mod ObjectServings
+pub mod DeviceServings
