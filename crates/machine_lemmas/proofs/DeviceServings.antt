@@ -17,7 +17,7 @@ use Rattle.device_model.specs.declared.rows.Transfer.{Transfer}
 use Rattle.device_model.specs.declared.rows.Wish.{Wish}
 use Rattle.device_model.specs.declared.rows.Wish.TheVariants as wish
 use Rattle.device_model.specs.Devices.Memory.{number_of, read_bytes}
-use Rattle.device_model.specs.Devices.Tables.{Devices, buffer_of, device_ids, free_request, opened_at, row_at, wish_of}
+use Rattle.device_model.specs.Devices.Tables.{Devices, Row, accepted, accepted_in, dropped, dropped_in, is_at_driver, with_buffer, buffer_of, device_ids, free_request, opened_at, row_at, wish_of}
 use Rattle.device_model.specs.Devices.Handing.{any_given, suspension_object}
 use Rattle.device_model.specs.Devices.Endings.{DevParts, close_object}
 use Rattle.device_model.specs.Devices.Requests.{accept, acceptance_object, accept_event, accept_from, buffer_size, claimed, ending_object, has_place, is_own, may_be_buffer, picked, set_buffer}
@@ -30,6 +30,7 @@ use Rattle.machine_lemmas.proofs.ObjectServings.{buffers_order, first_in_queue}
 -- a wait ends or moves, and the queues of mailboxes and message buffers keep their orders
 pub record IsDevServing (p q : DevParts) : Type 1 where
   pub ends : IsEnding p.base q.base
+  pub links : q.table.links ≡ p.table.links
   pub orders : (object : ℕ) → mail_order q.mails object ≡ mail_order p.mails object
 
 dev_parts_of : (p left q : DevParts) → Some left ≡ Some q → IsDevServing p left → IsDevServing p q
@@ -37,10 +38,32 @@ dev_parts_of p left q same is = let e : left ≡ q = cc same in subst (IsDevServ
 
 -- ---- acceptance
 
--- the acceptance of a request leaves the base, and the mailboxes and message buffers
+row_cases : (dv : Devices) (id : ℕ) (row : Row) (slot : Option Row) → (accepted_in slot dv id row).links ≡ dv.links
+row_cases dv id row None = refl
+row_cases dv id row (Some other) = refl
+
+-- a request that is accepted or let go leaves the links to drivers
+pub accepted_links : (dv : Devices) (id : ℕ) (row : Row) → (accepted dv id row).links ≡ dv.links
+unfolding accepted
+accepted_links dv id row = row_cases dv id row (row_at dv id)
+
+dropped_if_free : (dv now : Devices) (kept : Bool) → now.links ≡ dv.links → (cond kept dv now).links ≡ dv.links
+dropped_if_free dv now true same = refl
+dropped_if_free dv now false same = same
+
+dropped_cases : (dv : Devices) (id : ℕ) (slot : Option Row) → (dropped_in slot dv id).links ≡ dv.links
+dropped_cases dv id None = refl
+dropped_cases dv id (Some row) = dropped_if_free dv _ (is_at_driver row.life) refl
+
+pub dropped_links : (dv : Devices) (id : ℕ) → (dropped dv id).links ≡ dv.links
+unfolding dropped
+dropped_links dv id = dropped_cases dv id (row_at dv id)
+
+-- the acceptance of a request leaves the base, the mailboxes and message buffers, and the links to drivers
 pub record Leaves (p q : DevParts) : Type 0 where
   pub base : q.base ≡ p.base
   pub mails : q.mails ≡ p.mails
+  pub links : q.table.links ≡ p.table.links
 
 leaves_if : (p a b : DevParts) (test : Bool) → Leaves p a → Leaves p b → Leaves p (cond test a b)
 leaves_if p a b true first second = first
@@ -48,16 +71,18 @@ leaves_if p a b false first second = second
 
 event_leaves : (p : DevParts) (d id : ℕ) (transfer : Transfer) → Leaves p (accept_event p d id transfer)
 event_leaves p d id transfer =
-    leaves_if p _ _ (transfer.size == 0) (record { base = refl; mails = refl })
+    leaves_if p _ _ (transfer.size == 0) (record { base = refl; mails = refl; links = accepted_links p.table id _ })
     (leaves_if p _ _ (transfer.size == buffer_size)
     (leaves_if p _ _ transfer.write
-    (leaves_if p _ _ (may_be_buffer p (number_of (read_bytes buffer_size transfer.address p.memory))) (record { base = refl; mails = refl }) (record { base = refl; mails = refl }))
-    (record { base = refl; mails = refl }))
-    (record { base = refl; mails = refl }))
+    (leaves_if p _ _ (may_be_buffer p (number_of (read_bytes buffer_size transfer.address p.memory)))
+    (record { base = refl; mails = refl; links = accepted_links (with_buffer p.table d (number_of (read_bytes buffer_size transfer.address p.memory))) id _ })
+    (record { base = refl; mails = refl; links = accepted_links p.table id _ }))
+    (record { base = refl; mails = refl; links = accepted_links p.table id _ }))
+    (record { base = refl; mails = refl; links = accepted_links p.table id _ }))
 
 from_leaves : (start : Option ℕ) (p : DevParts) (d id : ℕ) (transfer : Transfer) → Leaves p (accept_from start p d id transfer)
 from_leaves None p d id transfer = event_leaves p d id transfer
-from_leaves (Some start) p d id transfer = record { base = refl; mails = refl }
+from_leaves (Some start) p d id transfer = record { base = refl; mails = refl; links = accepted_links p.table id _ }
 
 pub accept_leaves : (p : DevParts) (d id : ℕ) (transfer : Transfer) → Leaves p (accept p d id transfer)
 unfolding accept
@@ -66,16 +91,19 @@ accept_leaves p d id transfer = from_leaves transfer.start p d id transfer
 -- an acceptance ends the wait, or moves it to that for the ending
 accepted_serving : (p q : DevParts) (d t dd id serial : ℕ) (stays : Bool) → 1 ≤ d → d ≤ 8 → waits_for p.base (acceptance_object d) t ≡ true → Leaves p q → IsDevServing p (after_acceptance q t dd id serial stays)
 accepted_serving p q d t dd id serial true least most waits leaves = record {
+  links = leaves.links;
   ends = subst (λ (b : Base). IsEnding p.base (move_wait b t (ending_object dd) Fifo)) (sym leaves.base) (one_moves p.base t d dd least most waits);
   orders = λ object. ap (λ mails. mail_order mails object) leaves.mails;
 }
 accepted_serving p q d t dd id serial false least most waits leaves = record {
+  links = leaves.links;
   ends = subst (λ (b : Base). IsEnding p.base (release b t (plain (pos id)))) (sym leaves.base) (one_ends p.base t (acceptance_object d) (plain (pos id)) (omega arith) waits);
   orders = λ object. ap (λ mails. mail_order mails object) leaves.mails;
 }
 
 admitted_serving : (p : DevParts) (d t : ℕ) (transfer : Transfer) (stays : Bool) (id : ℕ) → 1 ≤ d → d ≤ 8 → waits_for p.base (acceptance_object d) t ≡ true → IsDevServing p (admitted p d t transfer stays id)
 admitted_serving p d t transfer stays zero least most waits = record {
+  links = refl;
   ends = one_ends p.base t (acceptance_object d) (plain (code_of er.Limit)) (omega arith) waits;
   orders = λ object. refl;
 }
@@ -117,6 +145,7 @@ acceptances_serving p q few is =
 claimed_serving : (p : DevParts) (dd t : ℕ) (q : DevParts) (picked_id : Option ℕ) → waits_for p.base (ending_object dd) t ≡ true → ending_claimed p t picked_id ≡ Some q → IsDevServing p q
 claimed_serving p dd t q None waits is = absurd (cc is)
 claimed_serving p dd t q (Some id) waits is = dev_parts_of p _ q is (record {
+  links = dropped_links p.table id;
   ends = one_ends p.base t (ending_object dd) _ (omega arith) waits;
   orders = λ object. refl;
 })
@@ -139,6 +168,7 @@ endings_serving p q is = let from = first_from (serve_ending p) q (drop 1 p.tabl
 closed_serving : (with_driver : Bool) (p : DevParts) (dd t : ℕ) (q : DevParts) → waits_for p.base (close_object dd) t ≡ true → closed_unless with_driver p dd t ≡ Some q → IsDevServing p q
 closed_serving true p dd t q waits is = absurd (cc is)
 closed_serving false p dd t q waits is = dev_parts_of p _ q is (record {
+  links = refl;
   ends = one_ends p.base t (close_object dd) _ (omega arith) waits;
   orders = λ object. refl;
 })
@@ -197,24 +227,26 @@ post_posting p id bytes q served = posted_posting p id bytes q (buffer_at p.tabl
 
 -- what events change
 pub record IsSending (p q : DevParts) : Type 1 where
+  pub table : q.table ≡ p.table
   pub changes : IsChange p.base q.base
   pub orders : (object : ℕ) → mail_order q.mails object ≡ mail_order p.mails object
 
 sending_then : (p q r : DevParts) → IsSending p q → IsSending q r → IsSending p r
 sending_then p q r first then = record {
+  table = then.table ∙ first.table;
   changes = change_then p.base q.base r.base first.changes then.changes;
   orders = λ object. then.orders object ∙ first.orders object;
 }
 
 after_sending : (p : DevParts) (id : ℕ) (bytes : List ℕ) (sent : Option MailParts) → post (mail_parts p) id bytes ≡ sent → IsSending p (after_post p sent)
-after_sending p id bytes None is = record { changes = unchanged p.base; orders = λ object. refl }
-after_sending p id bytes (Some parts) is = let posting = post_posting (mail_parts p) id bytes parts is in record { changes = posting.changes; orders = posting.orders }
+after_sending p id bytes None is = record { table = refl; changes = unchanged p.base; orders = λ object. refl }
+after_sending p id bytes (Some parts) is = let posting = post_posting (mail_parts p) id bytes parts is in record { table = refl; changes = posting.changes; orders = posting.orders }
 
 event_sending : (type : ℕ) (p : DevParts) (d : ℕ) → IsSending p (event_sent type p d)
 event_sending type p d = after_sending p (buffer_of p.table d) (event_bytes type d) _ refl
 
 each_sending : (type : ℕ) (ids : List ℕ) (p : DevParts) → IsSending p (fold (event_sent type) p ids)
-each_sending type [] p = record { changes = unchanged p.base; orders = λ object. refl }
+each_sending type [] p = record { table = refl; changes = unchanged p.base; orders = λ object. refl }
 each_sending type (d ∷ ids) p = sending_then p (event_sent type p d) (fold (event_sent type) (event_sent type p d) ids) (event_sending type p d) (each_sending type ids (event_sent type p d))
 
 pub events_sending : (p : DevParts) → IsSending p (events_sent p)
@@ -230,6 +262,7 @@ suspended_serving false p t q waits is =
     let ended : DevParts = record p { base = release p.base t (plain (pos p.table.off)) } in
     let sending = events_sending ended in
     dev_parts_of p (events_sent ended) q is (record {
+      links = ap (λ (dv : Devices). dv.links) sending.table;
       ends = ends_then p.base (events_sent ended).base t suspension_object (plain (pos p.table.off)) (omega arith) waits sending.changes;
       orders = sending.orders;
     })

@@ -3,3 +3,4 @@ pub mod Changes
 pub mod Finding
 pub mod ObjectServings
 pub mod DeviceServings
+pub mod Servings
