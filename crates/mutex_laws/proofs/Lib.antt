@@ -1,1 +1,4 @@
 pub mod Chains
+pub mod Least
+pub mod Taken
+pub mod Unowned

@@ -1,7 +1,8 @@
--- Chains of tasks as a relation, and the least priority over all whose chain comes to one task.
-use Rattle.std.specs.Prelude.{ℕ, ◌≡◌, ◌≤◌, Bool, true}
-use Rattle.kernel_model.specs.Tasks.Base.{Base, task_at}
-use Rattle.object_model.specs.Mutexes.Tables.{Mutexes}
+-- Chains of tasks as a relation, and the priorities that are taken over along them, in the words of the subject.
+use Rattle.std.specs.Prelude.{ℕ, ◌≡◌, ◌≤◌, ◌⊎◌, Bool, true, Option, Some}
+use Rattle.kernel_model.specs.LawWords.Once.{times}
+use Rattle.kernel_model.specs.Tasks.Base.{Base, base_of, task_at}
+use Rattle.object_model.specs.Mutexes.Tables.{Mutexes, ceiling_of, held}
 use Rattle.object_model.specs.Mutexes.Priority.{is_alive, next_in_chain, own}
 
 -- a task stands in the chain of another one: it is that one, or stands in the chain of the next. The next of a task may be 0,
@@ -9,6 +10,19 @@ use Rattle.object_model.specs.Mutexes.Priority.{is_alive, next_in_chain, own}
 pub data InChain (next : ℕ → ℕ) (t : ℕ) : ℕ → Type 0 where
   here : InChain next t t
   behind : {u : ℕ} → (next u ≡ 0 → ⊥) → InChain next t (next u) → InChain next t u
+
+-- a priority is the ceiling of a mutex that a task holds
+pub record IsCeiling (m : Mutexes) (u priority : ℕ) : Type 0 where
+  pub id : ℕ
+  pub holds : 1 ≤ times id (held m u)
+  pub gives : ceiling_of m id ≡ Some priority
+
+-- a priority is the least of a task's base and of the ceilings of the mutexes that it holds: none of these is a lower number,
+-- and it is one of them
+pub record IsOwn (b : Base) (m : Mutexes) (u priority : ℕ) : Type 0 where
+  pub under_base : priority ≤ base_of b u
+  pub under_ceilings : (id ceiling : ℕ) → 1 ≤ times id (held m u) → ceiling_of m id ≡ Some ceiling → priority ≤ ceiling
+  pub one : (priority ≡ base_of b u) ⊎ IsCeiling m u priority
 
 -- a priority is the least that a living task whose chain comes to this one has by itself: none of these has a lower number,
 -- and one of them has this one
