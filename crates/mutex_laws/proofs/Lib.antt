@@ -1,6 +1,9 @@
+pub mod Alike
+pub mod Backs
 pub mod Chains
 pub mod Least
 pub mod Places
 pub mod Refusals
+pub mod Resettled
 pub mod Taken
 pub mod Unowned

@@ -47,3 +47,24 @@ pub in_table : {A : Type 0} → (t : ℕ) (slots : List (Option A)) → 1 ≤ t 
 in_table t [] one = inl refl
 in_table zero (slot ∷ slots) one = absurd (omega (arith, one))
 in_table (suc place) (slot ∷ slots) one = let next : 1 + place ≡ suc place = omega arith in subst (λ (t : ℕ). (entry slots place ≡ None) ⊎ IsOneOf t (taken_from 1 slots)) next (free_or_taken 1 place slots)
+
+-- ---- each stands there once
+
+later_if : (n from : ℕ) (same : Bool) → (from == n) ≡ same → n < from → ◌≡◌ {A = ℕ} (cond same 1 0) 0
+later_if n from true at low = let e : from ≡ n = grind (arith, nat_tests, at) in absurd (omega (arith, low, e))
+later_if n from false at low = refl
+
+-- none stands before the first
+none_before : {A : Type 0} → (n from : ℕ) (slots : List (Option A)) → n < from → times n (taken_from from slots) ≡ 0
+none_before n from [] low = refl
+none_before n from (None ∷ slots) low = none_before n (from + 1) slots (omega (arith, low))
+none_before n from (Some k ∷ slots) low = let rest = none_before n (from + 1) slots (omega (arith, low)) in let first = later_if n from (from == n) refl low in omega (arith, rest, first)
+
+once_if : (n from : ℕ) (same : Bool) (more : ℕ) → (from == n) ≡ same → (n < from + 1 → more ≡ 0) → more ≤ 1 → cond same 1 0 + more ≤ 1
+once_if n from true more at none few = let e : from ≡ n = grind (arith, nat_tests, at) in let zero_more = none (omega (arith, e)) in omega (arith, zero_more)
+once_if n from false more at none few = omega (arith, few)
+
+pub taken_once : {A : Type 0} → (from : ℕ) (slots : List (Option A)) → IsOnce (taken_from from slots)
+taken_once from [] = λ n. omega arith
+taken_once from (None ∷ slots) = taken_once (from + 1) slots
+taken_once from (Some k ∷ slots) = λ n. once_if n from (from == n) (times n (taken_from (from + 1) slots)) refl (none_before n (from + 1) slots) (taken_once (from + 1) slots n)

@@ -1,9 +1,9 @@
 -- Chains of tasks as a relation, and the priorities that are taken over along them, in the words of the subject.
-use Rattle.std.specs.Prelude.{ℕ, ◌≡◌, ◌≤◌, ◌⊎◌, Bool, true, Option, Some}
+use Rattle.std.specs.Prelude.{ℕ, ◌≡◌, ◌≤◌, ◌⊎◌, ◌==◌, Bool, not, true, Option, Some}
 use Rattle.kernel_model.specs.LawWords.Once.{times}
-use Rattle.kernel_model.specs.Tasks.Base.{Base, base_of, task_at}
+use Rattle.kernel_model.specs.Tasks.Base.{Base, base_of, current, task_at}
 use Rattle.object_model.specs.Mutexes.Tables.{Mutexes, ceiling_of, held}
-use Rattle.object_model.specs.Mutexes.Priority.{is_alive, next_in_chain, own}
+use Rattle.object_model.specs.Mutexes.Priority.{current_of, is_alive, next_in_chain, own}
 
 -- a task stands in the chain of another one: it is that one, or stands in the chain of the next. The next of a task may be 0,
 -- which is none
@@ -32,3 +32,7 @@ pub record IsLeast (b : Base) (m : Mutexes) (t priority : ℕ) : Type 0 where
   pub lives : is_alive (task_at b who) ≡ true
   pub stands : InChain (next_in_chain b m) t who
   pub gives : priority ≡ own b m who
+
+-- whether a task's current priority isn't that of its definition
+abbrev pub is_stale : Base → Mutexes → ℕ → Bool
+is_stale b m t = not (current b t == current_of b m t)
