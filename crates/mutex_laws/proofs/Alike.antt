@@ -1,6 +1,6 @@
 -- The current priority by definition doesn't look at the current priorities that tasks have, nor at the orders: it is the same
 -- for two bases whose tasks have the same lives, bases and waits.
-use Rattle.std.proofs.Common.{◌≡◌, ℕ, suc, zero, ◌+◌, min, Bool, true, false, not, ◌&&◌, ◌||◌, List, [], ◌∷◌, Option, Some, None, refl, cond, ◌∙◌, ap, sym, subst, arith}
+use Rattle.std.proofs.Common.{◌≡◌, ℕ, suc, zero, ◌+◌, min, not, ◌&&◌, ◌||◌, List, [], ◌∷◌, Option, Some, None, refl, cond, ◌∙◌, ap, sym}
 use Rattle.std.specs.Prelude.{drop, fold, slice_set}
 use Rattle.std.specs.Bool.{◌==◌}
 use Rattle.tk_types.specs.declared.task.Task.{Task}

@@ -1,15 +1,13 @@
 -- The current priority is the least of those that are lent.
-use Rattle.std.proofs.Common.{◌≡◌, ℕ, suc, zero, ◌+◌, ◌<◌, ◌≤◌, min, Bool, true, false, not, ◌&&◌, ◌⊎◌, inl, inr, List, [], ◌∷◌, length, Option, Some, None, refl, cond, ◌∙◌, ap, sym, subst, arith}
+use Rattle.std.proofs.Common.{◌≡◌, ℕ, ◌<◌, ◌≤◌, min, Bool, true, false, not, ◌&&◌, ◌⊎◌, inl, inr, List, [], ◌∷◌, length, Option, Some, None, refl, cond, ◌∙◌, ap, sym, subst, arith}
 use Rattle.std.specs.Prelude.{drop, fold}
 use Rattle.std.specs.Bool.{◌==◌}
 use Rattle.std.proofs.lemmas.Bool.Decides.{nat_tests}
 use Rattle.tk_types.specs.declared.task.Task.{Task}
-use Rattle.kernel_model.specs.LawWords.Once.{times}
 use Rattle.kernel_model.specs.Words.Orders.{entry, taken_from}
-use Rattle.kernel_model.specs.Tasks.Base.{Base, base_of, dormant_in, is_dormant, is_dormant_phase, task_at}
+use Rattle.kernel_model.specs.Tasks.Base.{Base, base_of, dormant_in, is_dormant, task_at}
 use Rattle.kernel_lemmas.proofs.Tables.{entry_inside}
-use Rattle.object_model.specs.declared.mutexes.Mutex.{Mutex}
-use Rattle.object_model.specs.Mutexes.Tables.{Mutexes, awaited, awaited_in, ceiling_of, held, mutex_at}
+use Rattle.object_model.specs.Mutexes.Tables.{Mutexes, awaited_in, ceiling_of, held, mutex_at}
 use Rattle.object_model.specs.Mutexes.Priority.{capped, chain_has, current_of, heir_in, is_alive, lends_to, lowered, next_in_chain, own, under}
 use Rattle.mutex_laws.specs.Chains.{InChain, here, IsCeiling, IsLeast, IsOwn}
 use Rattle.mutex_laws.proofs.Chains.{found_stands, stands_found}

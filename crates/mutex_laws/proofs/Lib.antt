@@ -1,9 +1,12 @@
 pub mod Alike
 pub mod Backs
+pub mod Ceilings
 pub mod Chains
+pub mod Freed
 pub mod Least
 pub mod Places
 pub mod Refusals
 pub mod Resettled
+pub mod Serving
 pub mod Taken
 pub mod Unowned

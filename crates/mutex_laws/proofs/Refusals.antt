@@ -5,7 +5,6 @@ use Rattle.std.specs.Bool.{◌==◌}
 use Rattle.std.specs.Int.{is_negative}
 use Rattle.std.specs.Ordering.{int_eq}
 use Rattle.std.proofs.lemmas.Bool.Decides.{nat_tests}
-use Rattle.tk_types.specs.declared.task.Order.{Order}
 use Rattle.tk_types.specs.declared.answer.Answer.{Answer}
 use Rattle.tk_types.specs.declared.answer.Outcome.{Outcome}
 use Rattle.tk_types.specs.declared.answer.Outcome.TheVariants.{Returned, Blocked}

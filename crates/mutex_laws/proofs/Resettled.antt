@@ -7,8 +7,8 @@ use Rattle.std.proofs.lemmas.Bool.Decides.{nat_tests}
 use Rattle.tk_types.specs.declared.task.Task.{Task}
 use Rattle.kernel_model.specs.LawWords.Once.{times, IsOnce}
 use Rattle.kernel_model.specs.LawWords.Precedence.{KeepsPlace}
-use Rattle.kernel_model.specs.Words.Orders.{entry, taken_from, to_back}
-use Rattle.kernel_model.specs.Tasks.Base.{Base, base_in, base_of, current, current_in, is_ready, set_current, task_at}
+use Rattle.kernel_model.specs.Words.Orders.{taken_from, to_back}
+use Rattle.kernel_model.specs.Tasks.Base.{Base, base_in, base_of, current, current_in, set_current, task_at}
 use Rattle.kernel_lemmas.proofs.Filters.{filter_alike}
 use Rattle.kernel_lemmas.proofs.Once.{once_drop, once_filter}
 use Rattle.kernel_lemmas.proofs.Places.{passes_back}
@@ -20,7 +20,7 @@ use Rattle.mutex_laws.specs.Chains.{is_stale}
 use Rattle.mutex_laws.proofs.Alike.{IsLike, current_alike, like_itself, like_then, set_current_like}
 use Rattle.mutex_laws.proofs.Backs.{all_back, all_stand_last, is_none_of}
 use Rattle.mutex_laws.proofs.Least.{dead_if}
-use Rattle.mutex_laws.proofs.Taken.{IsOneOf, in_table, one_of, one_times, taken_once}
+use Rattle.mutex_laws.proofs.Taken.{IsOneOf, in_table, one_times, taken_once}
 
 -- ---- with the priorities given
 
@@ -274,3 +274,23 @@ places_stay given b c t (u ∷ ids) fresh has = places_stay given b (set_to give
 -- a task whose own priority doesn't change keeps its row and its place
 pub resettled_place : (b : Base) (m : Mutexes) (t : ℕ) → KeepsPlace b t → current b t ≡ current_of b m t → KeepsPlace (resettle b m) t
 resettled_place b m t is fresh = subst (λ (c : Base). KeepsPlace c t) (sym (resettled_to b m)) (places_stay (current_of b m) b b t (taken_from 1 (drop 1 b.tasks)) fresh (record { row = refl; place = is })).place
+
+-- ---- nothing to take over
+
+same_if : (b c : Base) (same : Bool) → same ≡ true → cond same b c ≡ b
+same_if b c true is = refl
+same_if b c false is = absurd (cc is)
+
+each_same : {A : Type 0} → (b : Base) (m : Mutexes) (from : ℕ) (slots : List (Option A)) → 1 ≤ from → ((t : ℕ) → 1 ≤ t → current b t ≡ current_of b m t) → fold (refresh m) b (taken_from from slots) ≡ b
+each_same b m from [] one fresh = refl
+each_same b m from (None ∷ slots) one fresh = each_same b m (from + 1) slots (omega (arith, one)) fresh
+each_same b m from (Some k ∷ slots) one fresh =
+    let is = fresh from one in
+    let test : (current b from == current_of b m from) ≡ true = grind (arith, nat_tests, is) in
+    ap (λ c. fold (refresh m) c (taken_from (from + 1) slots)) (same_if b (set_current b from (current_of b m from)) (current b from == current_of b m from) test)
+    ∙ each_same b m (from + 1) slots (omega (arith, one)) fresh
+
+-- where each task has the priority of its definition, nothing changes
+pub resettled_same : (b : Base) (m : Mutexes) → ((t : ℕ) → 1 ≤ t → current b t ≡ current_of b m t) → resettle b m ≡ b
+unfolding resettle
+resettled_same b m fresh = each_same b m 1 (drop 1 b.tasks) (omega arith) fresh

@@ -1,6 +1,6 @@
 -- The IDs that are taken in a table: each slot that isn't free has its own there, and each stands there once.
-use Rattle.std.proofs.Common.{◌≡◌, ℕ, suc, zero, ◌+◌, ◌≤◌, ◌<◌, ◌⊎◌, inl, inr, List, [], ◌∷◌, Option, Some, None, refl, cond, ◌∙◌, ap, sym, subst, arith, Bool, true, false}
-use Rattle.std.specs.Prelude.{drop, slice_set}
+use Rattle.std.proofs.Common.{◌≡◌, ℕ, suc, zero, ◌+◌, ◌≤◌, ◌<◌, ◌⊎◌, inl, inr, List, [], ◌∷◌, Option, Some, None, refl, cond, subst, arith, Bool, true, false}
+use Rattle.std.specs.Prelude.{drop}
 use Rattle.std.specs.Bool.{◌==◌}
 use Rattle.std.proofs.lemmas.Bool.Decides.{nat_tests}
 use Rattle.kernel_model.specs.LawWords.Once.{times, IsOnce}

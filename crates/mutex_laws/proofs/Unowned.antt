@@ -1,12 +1,12 @@
 -- Where nobody owns a mutex, each task has the priority of its base.
-use Rattle.std.proofs.Common.{◌≡◌, ℕ, suc, zero, ◌+◌, ◌≤◌, min, Bool, true, false, not, ◌&&◌, ◌||◌, List, [], ◌∷◌, Option, Some, None, refl, cond, ◌∙◌, ap, sym, subst, arith}
+use Rattle.std.proofs.Common.{◌≡◌, ℕ, suc, zero, ◌≤◌, min, Bool, true, false, not, ◌&&◌, ◌||◌, List, [], ◌∷◌, Option, Some, None, refl, cond, ◌∙◌, ap, arith}
 use Rattle.std.specs.Prelude.{drop, filter, fold}
 use Rattle.std.specs.Bool.{◌==◌}
 use Rattle.std.proofs.lemmas.Bool.Decides.{nat_tests}
 use Rattle.kernel_model.specs.Words.Orders.{taken_from}
 use Rattle.kernel_model.specs.Tasks.Base.{Base, base_of, task_at}
 use Rattle.object_model.specs.declared.mutexes.Mutex.{Mutex}
-use Rattle.object_model.specs.Mutexes.Tables.{Mutexes, awaited, held, mutex_at, owner_in, owner_of}
+use Rattle.object_model.specs.Mutexes.Tables.{Mutexes, awaited, mutex_at, owner_in, owner_of}
 use Rattle.object_model.specs.Mutexes.Priority.{capped, chain_has, current_of, heir_in, is_alive, lends_to, lowered, next_in_chain, own}
 
 passed_over : (id : ℕ) (rest : List ℕ) (owner t : ℕ) → owner ≡ 0 → 1 ≤ t → cond (owner == t) (id ∷ rest) rest ≡ rest

@@ -1,5 +1,5 @@
 -- Chains of tasks as a relation, and the priorities that are taken over along them, in the words of the subject.
-use Rattle.std.specs.Prelude.{ℕ, ◌≡◌, ◌≤◌, ◌⊎◌, ◌==◌, Bool, not, true, Option, Some}
+use Rattle.std.specs.Prelude.{ℕ, ◌≡◌, ◌≤◌, ◌⊎◌, ◌==◌, Bool, not, true, Some}
 use Rattle.kernel_model.specs.LawWords.Once.{times}
 use Rattle.kernel_model.specs.Tasks.Base.{Base, base_of, current, task_at}
 use Rattle.object_model.specs.Mutexes.Tables.{Mutexes, ceiling_of, held}

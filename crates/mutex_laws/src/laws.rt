@@ -1,6 +1,6 @@
 //! Laws of the definitions, each the contract of a function that does nothing.
 
-ghost use Rattle.std.specs.Prelude.{◌≡◌, ℕ, ◌<◌, ◌≤◌, ◌⊎◌, Bool, false, length, true, None, ℤ};
+ghost use Rattle.std.specs.Prelude.{◌≡◌, ℕ, ◌<◌, ◌≤◌, ◌⊎◌, ◌++◌, ◌∷◌, [], Bool, drop, false, filter, length, List, not, option_map, pos, true, None, Some, ℤ};
 ghost use Rattle.std.specs.Int.{is_negative};
 ghost use Rattle.tk_types.specs.declared.answer.Answer.{Answer};
 ghost use Rattle.tk_types.specs.declared.answer.Outcome.TheVariants.{Returned};
@@ -10,14 +10,19 @@ ghost use Rattle.tk_types.specs.declared.calls.MutexCall.{MutexCall};
 ghost use Rattle.tk_types.specs.declared.calls.TaskCall.{TaskCall};
 ghost use Rattle.tk_types.specs.declared.calls.TaskCall.TheVariants.{ChgPri};
 ghost use Rattle.tk_types.specs.declared.error_code.Er.TheVariants as er;
+ghost use Rattle.tk_types.specs.declared.task.Task.{Task};
+ghost use Rattle.kernel_model.specs.LawWords.Once.{IsOnce};
 ghost use Rattle.kernel_model.specs.LawWords.Precedence.{KeepsPlace};
-ghost use Rattle.kernel_model.specs.Tasks.Base.{Base, base_of, is_dormant, is_ready, task_at};
+ghost use Rattle.kernel_model.specs.Tasks.Base.{Base, base_of, current, is_dormant, is_ready, release, task_at, waits_for};
 ghost use Rattle.kernel_model.specs.Tasks.Calls.{named, new_base, task_call};
-ghost use Rattle.kernel_model.specs.Words.Checks.{failed};
+ghost use Rattle.kernel_model.specs.Words.Checks.{failed, plain};
+ghost use Rattle.kernel_model.specs.Words.Orders.{taken_from};
+ghost use Rattle.object_model.specs.declared.mutexes.Mutex.{Mutex};
 ghost use Rattle.object_model.specs.Mutexes.Calls.{mutex_call, task_call_beside};
-ghost use Rattle.object_model.specs.Mutexes.Priority.{chain_has, current_of, is_alive, own};
-ghost use Rattle.object_model.specs.Mutexes.Tables.{Mutexes, ceiling_allows, mutex_at, owner_of};
-ghost use Rattle.mutex_laws.specs.Chains.{InChain, IsLeast, IsOwn};
+ghost use Rattle.object_model.specs.Mutexes.Priority.{chain_has, current_of, is_alive, own, resettle};
+ghost use Rattle.object_model.specs.Mutexes.Tables.{MutexParts, Mutexes, awaited, ceiling_allows, ceiling_of, free_last, held, locked, mutex_at, mutex_object, mutex_waiters, owner_of, serve_mutex, serve_mutexes};
+ghost use Rattle.mutex_laws.specs.Chains.{InChain, IsLeast, IsOwn, is_stale};
+ghost use Rattle.mutex_laws.specs.Owners.{HoldsOrAwaits, IsAboveCeiling, IsFirstServed, IsLastFreed, IsServed};
 
 /// What the definition finds in a chain within 255 tasks behind its first is what stands there: nothing else is found, and
 /// nothing is missed, since all that have a next one have IDs below 256. So a chain that comes to one of its tasks again,
@@ -42,6 +47,50 @@ pub fn without_owners_the_base_priority_counts()
     ensures base { (b : Base) (m : Mutexes) (t : ℕ) → ((id : ℕ) → owner_of m id ≡ 0) → 1 ≤ t → current_of b m t ≡ base_of b t }
 {}
 
+/// Once changed priorities are taken over, the current priority of each task is that of its definition. Each row is as it was
+/// but for that; the tasks whose priority changed stand last in the order of stamps, in rising ID, and the others as they
+/// stood; nothing else has changed. So a task that was the first of its equals, and whose own priority doesn't change, stays
+/// so; and where no priority changes, nothing does. There is no task 0.
+pub fn taking_over_gives_each_task_its_priority()
+    ensures current { (b : Base) (m : Mutexes) (t : ℕ) → 1 ≤ t → current (resettle b m) t ≡ current_of (resettle b m) m t }
+    ensures rows { (b : Base) (m : Mutexes) (t : ℕ) → 1 ≤ t →
+        task_at (resettle b m) t ≡ option_map {T = Task} (λ k. record k { current = current_of b m t }) (task_at b t) }
+    ensures order { (b : Base) (m : Mutexes) → task_at b 0 ≡ None →
+        (resettle b m).order ≡ filter (λ u. not (is_stale b m u)) b.order ++ filter (is_stale b m) (taken_from 1 (drop 1 b.tasks)) }
+    ensures rest { (b : Base) (m : Mutexes) → resettle b m ≡ record b { tasks = (resettle b m).tasks; order = (resettle b m).order } }
+    ensures place { (b : Base) (m : Mutexes) (t : ℕ) → KeepsPlace b t → current b t ≡ current_of b m t → KeepsPlace (resettle b m) t }
+    ensures still { (b : Base) (m : Mutexes) → ((t : ℕ) → 1 ≤ t → current b t ≡ current_of b m t) → resettle b m ≡ b }
+{}
+
+/// Serving a mutex ends exactly one wait, that of the first in its queue, who becomes its owner; it comes only where nobody owns
+/// the mutex, and where a task waits for such a one it comes. Of all mutexes the first by ID that can serve one does, and where
+/// none does, none can.
+pub fn a_free_mutex_goes_to_the_first_of_its_queue()
+    ensures served { (b : Base) (m : Mutexes) (id : ℕ) (parts : MutexParts) → serve_mutex b m id ≡ Some parts → IsServed b m id parts }
+    ensures owned { (b : Base) (m : Mutexes) (id : ℕ) → (owner_of m id ≡ 0 → ⊥) → serve_mutex b m id ≡ None }
+    ensures free { (b : Base) (m : Mutexes) (id t : ℕ) (k : Mutex) (rest : List ℕ) → mutex_at m id ≡ Some k → k.owner ≡ 0 → mutex_waiters b k id ≡ t ∷ rest →
+        serve_mutex b m id ≡ Some (record { base = release b t (plain (pos 0)); table = locked m id k t }) }
+    ensures first { (b : Base) (m : Mutexes) (parts : MutexParts) → serve_mutexes b m ≡ Some parts → IsFirstServed b m parts }
+    ensures none { (b : Base) (m : Mutexes) (id : ℕ) → serve_mutexes b m ≡ None → 1 ≤ id → serve_mutex b m id ≡ None }
+{}
+
+/// Of the mutexes that a task holds the one that it locked last is freed, and nothing else changes; where none is freed, the
+/// task holds none. Each mutex that is owned stands once among those that are locked.
+pub fn what_was_locked_last_is_freed_first()
+    ensures freed { (b : Base) (m : Mutexes) (t : ℕ) (now : Mutexes) → IsOnce m.locks → free_last b m t ≡ Some now → IsLastFreed m t now }
+    ensures none { (b : Base) (m : Mutexes) (t : ℕ) → free_last b m t ≡ None → held m t ≡ [] }
+{}
+
+/// A priority that ceilings allow is above no ceiling of a mutex that the task holds or waits for, and one that they don't allow
+/// is above such a ceiling; above means a smaller number. The mutex that a task waits for is the one for whose object it waits.
+pub fn a_ceiling_is_what_no_priority_may_be_above()
+    ensures allowed { (b : Base) (m : Mutexes) (t priority id ceiling : ℕ) → ceiling_allows b m t priority ≡ true →
+        HoldsOrAwaits b m t id → ceiling_of m id ≡ Some ceiling → ceiling ≤ priority }
+    ensures refused { (b : Base) (m : Mutexes) (t priority : ℕ) → ceiling_allows b m t priority ≡ false → IsAboveCeiling b m t priority }
+    ensures awaits { (b : Base) (t id : ℕ) → waits_for b (mutex_object id) t ≡ true → 1 ≤ id → id ≤ 64 → awaited b t ≡ id }
+    ensures waits { (b : Base) (t id : ℕ) → awaited b t ≡ id → 1 ≤ id → waits_for b (mutex_object id) t ≡ true }
+{}
+
 /// A call on mutexes that is refused changes nothing: where it answers a negative value, which is an error, the base and the
 /// table of mutexes are as they were.
 pub fn a_call_on_mutexes_that_is_refused_changes_nothing()
@@ -63,9 +112,14 @@ pub fn calls_on_tasks_know_of_mutexes_by_ceilings_alone()
         (task_call_beside b m who (ChgPri task priority)).base ≡ b }
 {}
 
-/// A task that makes a call on mutexes and stays ready keeps its place: it stays the first of its equals.
+/// A task that makes a call on mutexes and stays ready keeps its place: it stays the first of its equals, also when changed
+/// priorities are taken over, unless its own is one of them.
 pub fn a_caller_keeps_its_place()
     ensures call { (b : Base) (m : Mutexes) (t : ℕ) (call : MutexCall) → KeepsPlace b t → is_ready b t ≡ true →
         is_ready (mutex_call b m (whos.Task t) call).base t ≡ true →
         KeepsPlace (mutex_call b m (whos.Task t) call).base t }
+    ensures taken_over { (b : Base) (m : Mutexes) (t : ℕ) (call : MutexCall) → KeepsPlace b t → is_ready b t ≡ true →
+        let left = mutex_call b m (whos.Task t) call in
+        is_ready left.base t ≡ true → current left.base t ≡ current_of left.base left.table t →
+        KeepsPlace (resettle left.base left.table) t }
 {}
