@@ -20,15 +20,15 @@ use Rattle.mutex_laws.specs.Owners.{IsLastFreed}
 -- ---- the last of a list
 
 -- a list with its last one
-record EndsWith (ids : List ℕ) (id : ℕ) : Type 0 where
-  left : List ℕ
-  ends : ids ≡ left ++ id ∷ []
+pub record EndsWith (ids : List ℕ) (id : ℕ) : Type 0 where
+  pub left : List ℕ
+  pub ends : ids ≡ left ++ id ∷ []
 
 last_is : (ids : List ℕ) (id first : ℕ) → last_or None (first ∷ ids) ≡ Some id → EndsWith (first ∷ ids) id
 last_is [] id first is = let e : first ≡ id = cc is in record { left = []; ends = ap (λ n. n ∷ []) e }
 last_is (next ∷ ids) id first is = let rest = last_is ids id next is in record { left = first ∷ rest.left; ends = ap (λ more. first ∷ more) rest.ends }
 
-ends_by : (ids : List ℕ) (id : ℕ) → last_or None ids ≡ Some id → EndsWith ids id
+pub ends_by : (ids : List ℕ) (id : ℕ) → last_or None ids ≡ Some id → EndsWith ids id
 ends_by [] id is = absurd (cc is)
 ends_by (first ∷ ids) id is = last_is ids id first is
 
@@ -68,7 +68,7 @@ passes_if passes id n false is stands = absurd (omega (arith, stands))
 stands_passes : (passes : ℕ → Bool) (id : ℕ) (ids : List ℕ) → 1 ≤ times id (filter passes ids) → passes id ≡ true
 stands_passes passes id ids stands = passes_if passes id (times id ids) (passes id) refl (subst (λ (n : ℕ). 1 ≤ n) (times_filter_is passes id ids) stands)
 
-last_stands : (id : ℕ) (left ids : List ℕ) → ids ≡ left ++ id ∷ [] → 1 ≤ times id ids
+pub last_stands : (id : ℕ) (left ids : List ℕ) → ids ≡ left ++ id ∷ [] → 1 ≤ times id ids
 last_stands id left ids ends =
     let both : times id ids ≡ times id left + (cond (id == id) 1 0 + 0) = ap (times id) ends ∙ times_append id left (id ∷ []) in
     let here : cond (id == id) 1 0 + 0 ≡ 1 + 0 = ap (λ (test : Bool). cond test 1 0 + 0) (itself id) in

@@ -32,7 +32,7 @@ first_waits order b t object rest stands = by_waits order b t object rest (waits
 
 -- ---- owners
 
-row_locked : (m : Mutexes) (id t : ℕ) (k : Mutex) → mutex_at m id ≡ Some k → mutex_at (locked m id k t) id ≡ Some (record k { owner = t })
+pub row_locked : (m : Mutexes) (id t : ℕ) (k : Mutex) → mutex_at m id ≡ Some k → mutex_at (locked m id k t) id ≡ Some (record k { owner = t })
 row_locked m id t k at = entry_there m.table id k (Some (record k { owner = t })) at
 
 -- a mutex that is locked is the latest that its owner holds
@@ -58,6 +58,7 @@ served_of b m id k (t ∷ rest) parts at free waits is =
       waited = waits;
       ended = refl;
       fewer = release_ends_one b t (plain (pos 0)) (waits_for_waits b t (mutex_object id) (first_waits k.order b t (mutex_object id) rest waits));
+      handed = refl;
       owns = ap owner_in (row_locked m id t k at);
       holds = held_locked m id t k at;
       others = λ other apart. entry_other m.table id other (Some (record k { owner = t })) apart;

@@ -1,8 +1,9 @@
 -- Chains of tasks as a relation, and the priorities that are taken over along them, in the words of the subject.
 use Rattle.std.specs.Prelude.{ℕ, ◌≡◌, ◌≤◌, ◌⊎◌, ◌==◌, Bool, not, true, Some}
 use Rattle.kernel_model.specs.LawWords.Once.{times}
-use Rattle.kernel_model.specs.Tasks.Base.{Base, base_of, current, task_at}
-use Rattle.object_model.specs.Mutexes.Tables.{Mutexes, ceiling_of, held}
+use Rattle.kernel_model.specs.Tasks.Base.{Base, base_of, current, task_at, waits_for}
+use Rattle.object_model.specs.declared.mutexes.Mutex.{Mutex}
+use Rattle.object_model.specs.Mutexes.Tables.{Mutexes, ceiling_of, held, mutex_at, mutex_object}
 use Rattle.object_model.specs.Mutexes.Priority.{current_of, is_alive, next_in_chain, own}
 
 -- a task stands in the chain of another one: it is that one, or stands in the chain of the next. The next of a task may be 0,
@@ -10,6 +11,16 @@ use Rattle.object_model.specs.Mutexes.Priority.{current_of, is_alive, next_in_ch
 pub data InChain (next : ℕ → ℕ) (t : ℕ) : ℕ → Type 0 where
   here : InChain next t t
   behind : {u : ℕ} → (next u ≡ 0 → ⊥) → InChain next t (next u) → InChain next t u
+
+-- a task waits for a mutex with inheritance, and another one owns that
+pub record WaitsForHeir (b : Base) (m : Mutexes) (u heir : ℕ) : Type 0 where
+  pub id : ℕ
+  pub row : Mutex
+  pub waits : waits_for b (mutex_object id) u ≡ true
+  pub in_range : (1 ≤ id) × (id ≤ 64)
+  pub there : mutex_at m id ≡ Some row
+  pub inherits : row.inherits ≡ true
+  pub owns : row.owner ≡ heir
 
 -- a priority is the ceiling of a mutex that a task holds
 pub record IsCeiling (m : Mutexes) (u priority : ℕ) : Type 0 where

@@ -6,7 +6,7 @@ use Rattle.kernel_model.specs.Words.Checks.{plain}
 use Rattle.kernel_model.specs.Words.Orders.{without}
 use Rattle.kernel_model.specs.Tasks.Base.{Base, release}
 use Rattle.object_model.specs.declared.mutexes.Mutex.{Mutex}
-use Rattle.object_model.specs.Mutexes.Tables.{MutexParts, Mutexes, awaited, ceiling_of, held, mutex_at, mutex_waiters, owner_of, serve_mutex}
+use Rattle.object_model.specs.Mutexes.Tables.{MutexParts, Mutexes, awaited, ceiling_of, held, locked, mutex_at, mutex_waiters, owner_of, serve_mutex}
 
 -- one wait for a mutex that nobody owned has ended with 0, that of the first in its queue, who owns it now, as the latest that
 -- it locked; and nothing else has changed
@@ -19,6 +19,7 @@ pub record IsServed (b : Base) (m : Mutexes) (id : ℕ) (parts : MutexParts) : T
   pub waited : mutex_waiters b row id ≡ first ∷ behind
   pub ended : parts.base ≡ release b first (plain (pos 0))
   pub fewer : waiting_count b ≡ waiting_count parts.base + 1
+  pub handed : parts.table ≡ locked m id row first
   pub owns : owner_of parts.table id ≡ first
   pub holds : held parts.table first ≡ without id (held m first) ++ id ∷ []
   pub others : (other : ℕ) → (other ≡ id → ⊥) → mutex_at parts.table other ≡ mutex_at m other

@@ -13,16 +13,19 @@ ghost use Rattle.tk_types.specs.declared.error_code.Er.TheVariants as er;
 ghost use Rattle.tk_types.specs.declared.task.Task.{Task};
 ghost use Rattle.kernel_model.specs.LawWords.Once.{IsOnce};
 ghost use Rattle.kernel_model.specs.LawWords.Precedence.{KeepsPlace};
+ghost use Rattle.kernel_model.specs.SemFlags.Trial.{MayWait};
 ghost use Rattle.kernel_model.specs.Tasks.Base.{Base, base_of, current, is_dormant, is_ready, release, task_at, waits_for};
 ghost use Rattle.kernel_model.specs.Tasks.Calls.{named, new_base, task_call};
 ghost use Rattle.kernel_model.specs.Words.Checks.{failed, plain};
 ghost use Rattle.kernel_model.specs.Words.Orders.{taken_from};
 ghost use Rattle.object_model.specs.declared.mutexes.Mutex.{Mutex};
-ghost use Rattle.object_model.specs.Mutexes.Calls.{mutex_call, task_call_beside};
-ghost use Rattle.object_model.specs.Mutexes.Priority.{chain_has, current_of, is_alive, own, resettle};
-ghost use Rattle.object_model.specs.Mutexes.Tables.{MutexParts, Mutexes, awaited, ceiling_allows, ceiling_of, free_last, held, locked, mutex_at, mutex_object, mutex_waiters, owner_of, serve_mutex, serve_mutexes};
-ghost use Rattle.mutex_laws.specs.Chains.{InChain, IsLeast, IsOwn, is_stale};
+ghost use Rattle.object_model.specs.Mutexes.Calls.{mutex_call, task_call_beside, waited_for_mutex};
+ghost use Rattle.object_model.specs.Mutexes.Priority.{chain_has, current_of, is_alive, next_in_chain, own, resettle};
+ghost use Rattle.object_model.specs.Mutexes.Tables.{MutexParts, Mutexes, awaited, ceiling_allows, ceiling_of, free_last, held, locked, mutex_at, mutex_object, mutex_waiters, mutexes_start, owner_of, serve_mutex, serve_mutexes};
+ghost use Rattle.mutex_laws.specs.Chains.{InChain, IsLeast, IsOwn, WaitsForHeir, is_stale};
 ghost use Rattle.mutex_laws.specs.Owners.{HoldsOrAwaits, IsAboveCeiling, IsFirstServed, IsLastFreed, IsServed};
+ghost use Rattle.mutex_laws.specs.Tables.{AreInOrder, IsCaller};
+ghost use Rattle.mutex_laws.specs.Trial.{mutex_trial};
 
 /// What the definition finds in a chain within 255 tasks behind its first is what stands there: nothing else is found, and
 /// nothing is missed, since all that have a next one have IDs below 256. So a chain that comes to one of its tasks again,
@@ -34,12 +37,15 @@ pub fn what_is_found_is_the_chain()
 
 /// The current priority of a task by definition is the highest, which is the least number, that any living task whose chain
 /// comes to it has by itself; what a task has by itself is the highest of its base priority and of the ceilings that it holds.
-/// A DORMANT task has its base priority. Tables have no more than 256 tasks, and no mutex 0.
+/// A DORMANT task has its base priority. A chain goes on from a task with the owner of the mutex with inheritance that it waits
+/// for, and with nobody else. Tables have no more than 256 tasks, and no mutex 0.
 pub fn the_current_priority_is_the_highest_that_is_lent()
     ensures least { (b : Base) (m : Mutexes) (t : ℕ) → length b.tasks ≤ 256 → mutex_at m 0 ≡ None → is_alive (task_at b t) ≡ true →
         IsLeast b m t (current_of b m t) }
     ensures own { (b : Base) (m : Mutexes) (u : ℕ) → IsOwn b m u (own b m u) }
     ensures dormant { (b : Base) (m : Mutexes) (t : ℕ) → is_dormant b t ≡ true → current_of b m t ≡ base_of b t }
+    ensures heir { (b : Base) (m : Mutexes) (u heir : ℕ) → mutex_at m 0 ≡ None → (heir ≡ 0 → ⊥) → next_in_chain b m u ≡ heir → WaitsForHeir b m u heir }
+    ensures next { (b : Base) (m : Mutexes) (u heir : ℕ) → WaitsForHeir b m u heir → next_in_chain b m u ≡ heir }
 {}
 
 /// Where nobody owns a mutex, the current priority of each task by definition is its base priority.
@@ -89,6 +95,27 @@ pub fn a_ceiling_is_what_no_priority_may_be_above()
     ensures refused { (b : Base) (m : Mutexes) (t priority : ℕ) → ceiling_allows b m t priority ≡ false → IsAboveCeiling b m t priority }
     ensures awaits { (b : Base) (t id : ℕ) → waits_for b (mutex_object id) t ≡ true → 1 ≤ id → id ≤ 64 → awaited b t ≡ id }
     ensures waits { (b : Base) (t id : ℕ) → awaited b t ≡ id → 1 ≤ id → waits_for b (mutex_object id) t ≡ true }
+{}
+
+/// A call that waits for a mutex is its trial: what the mutex decides for its caller is what comes of it when the caller joins
+/// the waiters and the mutex serves one, if it can. The caller is ready, and before the call the mutex could serve nobody. With
+/// a time-out of 0 a call that isn't served changes nothing.
+pub fn a_call_for_a_mutex_is_its_trial()
+    ensures trial { (b : Base) (m : Mutexes) (t id : ℕ) (timeout : ℤ) (k : Mutex) → MayWait b t → mutex_at m id ≡ Some k → serve_mutex b m id ≡ None →
+        waited_for_mutex b m t id timeout (Some k) ≡ mutex_trial b m t id timeout k }
+    ensures over { (b : Base) (m : Mutexes) (t id : ℕ) (k : Mutex) → (k.owner ≡ 0 → ⊥) →
+        waited_for_mutex b m t id (pos 0) (Some k) ≡ record { base = b; table = m; outcome = failed er.TmOut } }
+{}
+
+/// The table of mutexes stays in order from the start on, through calls, servings and freeings: the mutexes that are locked are
+/// those that are owned, each once, owners are tasks, and there is no mutex 0. So no task ever holds more than 64.
+pub fn the_table_of_mutexes_stays_in_order()
+    ensures start { AreInOrder mutexes_start }
+    ensures call { (b : Base) (m : Mutexes) (who : Who) (call : MutexCall) → AreInOrder m → IsCaller who → AreInOrder (mutex_call b m who call).table }
+    ensures serving { (b : Base) (m : Mutexes) (id : ℕ) (parts : MutexParts) → AreInOrder m → length b.tasks ≤ 256 → task_at b 0 ≡ None →
+        serve_mutex b m id ≡ Some parts → AreInOrder parts.table }
+    ensures freeing { (b : Base) (m : Mutexes) (t : ℕ) (now : Mutexes) → AreInOrder m → free_last b m t ≡ Some now → AreInOrder now }
+    ensures few { (m : Mutexes) (t : ℕ) → AreInOrder m → length (held m t) ≤ 64 }
 {}
 
 /// A call on mutexes that is refused changes nothing: where it answers a negative value, which is an error, the base and the

@@ -1,3 +1,4 @@
+use Rattle.mutex_laws.proofs.Heirs.{heir_is_next, next_is_heir}
 use Rattle.mutex_laws.proofs.Least.{current_dormant, current_least, own_is}
 use Rattle.mutex_laws.proofs.laws.the_current_priority_is_the_highest_that_is_lent.Goals as goal
 
@@ -9,3 +10,9 @@ returns-clause-own c = own_is
 
 pub returns-clause-dormant : goal.returns-clause-dormant
 returns-clause-dormant c = current_dormant
+
+pub returns-clause-heir : goal.returns-clause-heir
+returns-clause-heir c = next_is_heir
+
+pub returns-clause-next : goal.returns-clause-next
+returns-clause-next c = heir_is_next
