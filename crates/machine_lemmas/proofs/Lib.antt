@@ -4,3 +4,5 @@ pub mod Finding
 pub mod ObjectServings
 pub mod DeviceServings
 pub mod Servings
+pub mod Handing
+pub mod Settling
