@@ -1,4 +1,5 @@
 pub mod Closing
 pub mod Journals
+pub mod Opening
 pub mod Requests
 pub mod Suspension
