@@ -3,3 +3,4 @@ pub mod Journals
 pub mod Opening
 pub mod Requests
 pub mod Suspension
+pub mod Units
