@@ -230,7 +230,7 @@ unfolding event_sent_script event_sent_entries event_sent_lines text_of form_of 
 event_sent_run = refl
 
 -- A suspension whose wait ends by tk_rel_wai, or with its task, sends no event. Then the requests that were held back are
--- handed over at once.
+-- handed over at once. A request for the event buffer needs no driver and isn't held back.
 given_up_script : Script
 given_up_script = record {
   devices = record { name = codes "a"; kind = devices.Ram 64 } ∷ record { name = codes "b"; kind = devices.Ram 64 } ∷ [];
@@ -253,6 +253,7 @@ given_up_script = record {
             stmts.Call names.TkReaDev (args.Number (pos 1) ∷ args.Number (pos 0) ∷ args.Number (pos 100) ∷ args.Number (pos 1) ∷ args.Number (negsuc 0) ∷ []) ∷
             stmts.Call names.TkStaTsk (args.Number (pos 2) ∷ args.Number (pos 0) ∷ []) ∷
             stmts.Call names.TkReaDev (args.Number (pos 2) ∷ args.Number (pos 0) ∷ args.Number (pos 100) ∷ args.Number (pos 1) ∷ args.Number (negsuc 0) ∷ []) ∷
+            stmts.Call names.TkSreaDev (args.Number (pos 2) ∷ args.Number (negsuc 0) ∷ args.Number (pos 104) ∷ args.Number (pos 4) ∷ []) ∷
             stmts.Call names.TkRelWai (args.Number (pos 2) ∷ []) ∷
             stmts.Call names.TkTerTsk (args.Number (pos 2) ∷ []) ∷
             stmts.Call names.TkReaDev (args.Number (pos 2) ∷ args.Number (pos 0) ∷ args.Number (pos 100) ∷ args.Number (pos 1) ∷ args.Number (negsuc 0) ∷ []) ∷
@@ -274,7 +275,7 @@ given_up_script = record {
 }
 
 given_up_entries : List Entry
-given_up_entries = record { place = 14; device = 2; request = 2; how = hows.Done } ∷ record { place = 17; device = 2; request = 3; how = hows.Done } ∷ record { place = 19; device = 1; request = 1; how = hows.Done } ∷ []
+given_up_entries = record { place = 15; device = 2; request = 2; how = hows.Done } ∷ record { place = 18; device = 2; request = 3; how = hows.Done } ∷ record { place = 20; device = 1; request = 1; how = hows.Done } ∷ []
 
 given_up_lines : List ℕ
 given_up_lines =
@@ -292,24 +293,25 @@ given_up_lines =
     codes "11 B 2 tk_sus_dev\n" ++
     codes "11 D 1\n" ++
     codes "12 C 1 tk_rea_dev 2\n" ++
-    codes "13 C 1 tk_rel_wai 0\n" ++
-    codes "13 W 2 tk_sus_dev E_RLWAI\n" ++
-    codes "13 D 2\n" ++
-    codes "14 J 2 2 done 0 1\n" ++
-    codes "14 B 2 tk_sus_dev\n" ++
-    codes "14 D 1\n" ++
-    codes "15 C 1 tk_ter_tsk 0\n" ++
-    codes "16 C 1 tk_rea_dev 3\n" ++
-    codes "17 J 2 3 done 0 1\n" ++
-    codes "17 C 1 tk_ref_mbf 0 0 0 64 0\n" ++
-    codes "18 B 1 tk_wai_dev\n" ++
-    codes "18 D 0\n" ++
-    codes "19 J 1 1 done 0 1\n" ++
-    codes "19 W 1 tk_wai_dev 1 1 0\n" ++
-    codes "19 D 1\n" ++
-    codes "19 C 1 tk_ext_tsk 0\n" ++
+    codes "13 C 1 tk_srea_dev 4\n" ++
+    codes "14 C 1 tk_rel_wai 0\n" ++
+    codes "14 W 2 tk_sus_dev E_RLWAI\n" ++
+    codes "14 D 2\n" ++
+    codes "15 J 2 2 done 0 1\n" ++
+    codes "15 B 2 tk_sus_dev\n" ++
+    codes "15 D 1\n" ++
+    codes "16 C 1 tk_ter_tsk 0\n" ++
+    codes "17 C 1 tk_rea_dev 3\n" ++
+    codes "18 J 2 3 done 0 1\n" ++
+    codes "18 C 1 tk_ref_mbf 0 0 0 64 0\n" ++
+    codes "19 B 1 tk_wai_dev\n" ++
     codes "19 D 0\n" ++
-    codes "19 END idle\n" ++
+    codes "20 J 1 1 done 0 1\n" ++
+    codes "20 W 1 tk_wai_dev 1 1 0\n" ++
+    codes "20 D 1\n" ++
+    codes "20 C 1 tk_ext_tsk 0\n" ++
+    codes "20 D 0\n" ++
+    codes "20 END idle\n" ++
     []
 
 given_up_run : text_of_lines (lines_of (trace given_up_script modes.Free 100000 given_up_entries)) ≡ given_up_lines

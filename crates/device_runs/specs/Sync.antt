@@ -192,7 +192,8 @@ unfolding entry_past_need_script entry_past_need_entries entry_past_need_lines t
 entry_past_need_run = refl
 
 -- In sync mode a request goes to its driver only when the machine is quiet, one at a time, least device first, and before
--- any idle tick. Where its ending readies a task, that runs first. A close of queued requests waits for nobody.
+-- any idle tick. Where its ending readies a task, that runs first. A suspension
+-- and a close wait for no queued request.
 least_device_first_script : Script
 least_device_first_script = record {
   devices = record { name = codes "a"; kind = devices.Ram 64 } ∷ record { name = codes "b"; kind = devices.Ram 64 } ∷ [];
@@ -217,6 +218,7 @@ least_device_first_script = record {
             stmts.Call names.TkWaiDev (args.Number (pos 1) ∷ args.Number (pos 0) ∷ args.Number (pos 0) ∷ []) ∷
             stmts.Call names.TkClsDev (args.Number (pos 1) ∷ []) ∷
             stmts.Call names.TkReaDev (args.Number (pos 2) ∷ args.Number (pos 0) ∷ args.Number (pos 8) ∷ args.Number (pos 1) ∷ args.Number (negsuc 0) ∷ []) ∷
+            stmts.Call names.TkSusDev (args.List 1 ∷ []) ∷
             stmts.Call names.TkClsDev (args.Number (pos 2) ∷ []) ∷
             stmts.Call names.TkDlyTsk (args.Number (pos 1) ∷ []) ∷
             [];
@@ -267,16 +269,17 @@ least_device_first_lines =
     codes "13 C 1 tk_wai_dev 4 1 0\n" ++
     codes "14 C 1 tk_cls_dev 0\n" ++
     codes "15 C 1 tk_rea_dev 2\n" ++
-    codes "16 C 1 tk_cls_dev 0\n" ++
-    codes "17 B 1 tk_dly_tsk\n" ++
-    codes "17 D 0\n" ++
-    codes "18 K 1\n" ++
-    codes "19 K 2\n" ++
-    codes "19 W 1 tk_dly_tsk 0\n" ++
-    codes "19 D 1\n" ++
-    codes "20 C 1 tk_ext_tsk 0\n" ++
-    codes "20 D 0\n" ++
-    codes "20 END idle\n" ++
+    codes "16 C 1 tk_sus_dev 0\n" ++
+    codes "17 C 1 tk_cls_dev 0\n" ++
+    codes "18 B 1 tk_dly_tsk\n" ++
+    codes "18 D 0\n" ++
+    codes "19 K 1\n" ++
+    codes "20 K 2\n" ++
+    codes "20 W 1 tk_dly_tsk 0\n" ++
+    codes "20 D 1\n" ++
+    codes "21 C 1 tk_ext_tsk 0\n" ++
+    codes "21 D 0\n" ++
+    codes "21 END idle\n" ++
     []
 
 least_device_first_run : text_of_lines (lines_of (trace least_device_first_script modes.Sync 100000 least_device_first_entries)) ≡ least_device_first_lines

@@ -67,6 +67,106 @@ use Rattle.machine_model.specs.Runs.Turns.{acted, ran, turn_of, done_turn}
 use Rattle.machine_model.specs.States.Objects.{first_serving as first_serving_2, serve_object}
 use Rattle.machine_model.specs.States.State.{state_start}
 
+-- A cut request moved its first blocks alone: a log grew by them. One that would have failed, or lies past the end, or has
+-- size 0 moved nothing and is cut at 0.
+cuts_script : Script
+cuts_script = record {
+  devices = record { name = codes "l"; kind = devices.Log } ∷ record { name = codes "f"; kind = devices.Flaky 64 2 } ∷ record { name = codes "r"; kind = devices.Ram 100 } ∷ [];
+  pace = None;
+  irqs = [];
+  boot = record { body = 1; priority = 10 };
+  bodies =
+      record {
+        name = codes "main";
+        kind = kinds.Task;
+        labels = [];
+        stmts =
+            stmts.Call names.TkOpnDev (args.Name (codes "l") ∷ args.List 4 ∷ []) ∷
+            stmts.Call names.TkWriDev (args.Number (pos 1) ∷ args.Number (pos 0) ∷ args.Number (pos 0) ∷ args.Number (pos 65) ∷ args.Number (negsuc 0) ∷ []) ∷
+            stmts.Call names.TkClsDev (args.Number (pos 1) ∷ []) ∷
+            stmts.Call names.TkOpnDev (args.Name (codes "l") ∷ args.List 4 ∷ []) ∷
+            stmts.Call names.TkWriDev (args.Number (pos 1) ∷ args.Number (pos 0) ∷ args.Number (pos 0) ∷ args.Number (pos 0) ∷ args.Number (negsuc 0) ∷ []) ∷
+            stmts.Call names.TkClsDev (args.Number (pos 1) ∷ []) ∷
+            stmts.Call names.TkOpnDev (args.Name (codes "l") ∷ args.List 4 ∷ []) ∷
+            stmts.Call names.TkSreaDev (args.Number (pos 1) ∷ args.Number (pos 0) ∷ args.Number (pos 1000) ∷ args.Number (pos 0) ∷ []) ∷
+            stmts.Call names.TkOpnDev (args.Name (codes "f") ∷ args.List 4 ∷ []) ∷
+            stmts.Store (operands.Number (pos 0)) (operands.Number (pos 7)) ∷
+            stmts.Call names.TkSwriDev (args.Number (pos 2) ∷ args.Number (pos 0) ∷ args.Number (pos 0) ∷ args.Number (pos 1) ∷ []) ∷
+            stmts.Call names.TkReaDev (args.Number (pos 2) ∷ args.Number (pos 0) ∷ args.Number (pos 500) ∷ args.Number (pos 4) ∷ args.Number (negsuc 0) ∷ []) ∷
+            stmts.Call names.TkClsDev (args.Number (pos 2) ∷ []) ∷
+            stmts.Call names.TkOpnDev (args.Name (codes "f") ∷ args.List 4 ∷ []) ∷
+            stmts.Call names.TkSreaDev (args.Number (pos 2) ∷ args.Number (pos 0) ∷ args.Number (pos 500) ∷ args.Number (pos 1) ∷ []) ∷
+            stmts.Load 5 (operands.Number (pos 500)) ∷
+            stmts.Show (operands.Register 5) ∷
+            stmts.Call names.TkOpnDev (args.Name (codes "r") ∷ args.List 4 ∷ []) ∷
+            stmts.Call names.TkWriDev (args.Number (pos 3) ∷ args.Number (pos 100) ∷ args.Number (pos 0) ∷ args.Number (pos 70) ∷ args.Number (negsuc 0) ∷ []) ∷
+            stmts.Call names.TkClsDev (args.Number (pos 3) ∷ []) ∷
+            [];
+      } ∷
+      [];
+}
+
+cuts_entries : List Entry
+cuts_entries = record { place = 4; device = 1; request = 1; how = hows.Cut 64 } ∷ record { place = 7; device = 1; request = 1; how = hows.Cut 0 } ∷ record { place = 9; device = 1; request = 1; how = hows.Done } ∷ record { place = 12; device = 2; request = 1; how = hows.Done } ∷ record { place = 14; device = 2; request = 1; how = hows.Cut 0 } ∷ record { place = 16; device = 2; request = 1; how = hows.Done } ∷ record { place = 21; device = 3; request = 1; how = hows.Cut 0 } ∷ []
+
+cuts_lines : List ℕ
+cuts_lines =
+    codes "0 D 1\n" ++
+    codes "1 C 1 tk_opn_dev 1\n" ++
+    codes "2 C 1 tk_wri_dev 1\n" ++
+    codes "3 B 1 tk_cls_dev\n" ++
+    codes "3 D 0\n" ++
+    codes "4 J 1 1 cut 64\n" ++
+    codes "4 W 1 tk_cls_dev 0\n" ++
+    codes "4 D 1\n" ++
+    codes "4 C 1 tk_opn_dev 1\n" ++
+    codes "5 C 1 tk_wri_dev 1\n" ++
+    codes "6 B 1 tk_cls_dev\n" ++
+    codes "6 D 0\n" ++
+    codes "7 J 1 1 cut 0\n" ++
+    codes "7 W 1 tk_cls_dev 0\n" ++
+    codes "7 D 1\n" ++
+    codes "7 C 1 tk_opn_dev 1\n" ++
+    codes "8 B 1 tk_srea_dev\n" ++
+    codes "8 D 0\n" ++
+    codes "9 J 1 1 done 0 64\n" ++
+    codes "9 W 1 tk_srea_dev 64\n" ++
+    codes "9 D 1\n" ++
+    codes "9 C 1 tk_opn_dev 2\n" ++
+    codes "11 B 1 tk_swri_dev\n" ++
+    codes "11 D 0\n" ++
+    codes "12 J 2 1 done 0 1\n" ++
+    codes "12 W 1 tk_swri_dev 1\n" ++
+    codes "12 D 1\n" ++
+    codes "12 C 1 tk_rea_dev 1\n" ++
+    codes "13 B 1 tk_cls_dev\n" ++
+    codes "13 D 0\n" ++
+    codes "14 J 2 1 cut 0\n" ++
+    codes "14 W 1 tk_cls_dev 0\n" ++
+    codes "14 D 1\n" ++
+    codes "14 C 1 tk_opn_dev 2\n" ++
+    codes "15 B 1 tk_srea_dev\n" ++
+    codes "15 D 0\n" ++
+    codes "16 J 2 1 done 0 1\n" ++
+    codes "16 W 1 tk_srea_dev 1\n" ++
+    codes "16 D 1\n" ++
+    codes "17 S 1 7\n" ++
+    codes "18 C 1 tk_opn_dev 3\n" ++
+    codes "19 C 1 tk_wri_dev 1\n" ++
+    codes "20 B 1 tk_cls_dev\n" ++
+    codes "20 D 0\n" ++
+    codes "21 J 3 1 cut 0\n" ++
+    codes "21 W 1 tk_cls_dev 0\n" ++
+    codes "21 D 1\n" ++
+    codes "21 C 1 tk_ext_tsk 0\n" ++
+    codes "21 D 0\n" ++
+    codes "21 END idle\n" ++
+    []
+
+cuts_run : text_of_lines (lines_of (trace cuts_script modes.Free 100000 cuts_entries)) ≡ cuts_lines
+unfolding cuts_script cuts_entries cuts_lines text_of form_of named made task_call_name sem_flag_call_name mutex_call_name mail_call_name pool_call_name time_call_name context_call_name device_call_name hook_call_name name_of code_of error_text coded error_named attributes_of flag_mode_of open_mode_of suspend_mode_of is_name_byte name_at_most why_text value_text words_of text_of_line text_of_lines fetch give call_before create_sem create_flag end_first delete_sem delete_flag refer_sem refer_flag signal_sem set_flag clear_flag wait_sem wait_flag sem_flag_call serve_sem serve_flag first_served serve_sem_flag sem_trial flag_trial chosen free_task create_task delete_task start_task exit_task terminate_task change_priority rotate_ready get_task refer_task sleep delay wake_up cancel_wakeups release_wait suspend_task resume_task task_call mark_of allowed free_from first_serving serve_box serve_mailboxes serve_buffer serve_buffers post create_box delete_box send_box receive_box refer_box create_buffer delete_buffer send_buffer receive_buffer refer_buffer mail_call create_mutex lock_mutex unlock_mutex refer_mutex delete_mutex mutex_call change_priority_beside task_call_beside chain_has current_of resettle free_last ceiling_allows serve_mutex serve_mutexes create_fixed delete_fixed get_fixed release_fixed refer_fixed create_variable delete_variable get_variable release_variable refer_variable pool_call first_free serve_fixed serve_fixed_pools serve_variable serve_variable_pools set_time get_time get_operating_time create_cyclic start_cyclic stop_cyclic delete_cyclic refer_cyclic create_alarm start_alarm stop_alarm delete_alarm refer_alarm time_call body_of next_due again define_handler disable_dispatch enable_dispatch disable_interrupts enable_interrupts refer_system define_service refer_service enter_service context_call left list_existing list_ready list_queue set_hook hook_call open_device refer_device request request_whole wait_ending close_device suspend_devices device_call expected arrive hand_over hand_first messages emptied read_bytes write_bytes accept picked serve_acceptance serve_acceptances serve_ending serve_endings is_with_driver serve_close serve_closes serve_suspension events_sent free_descriptor free_request first_queued at_driver accepted dropped handed asked devices_start block is_last blocks unit cut may_cut arrived entered returned body_returned family_call answered called follow_release follow_each with_releases dispatched followed insert_once with_requests handler_begun due_begun interrupt_begun served_within settle freed_within fallen due_done tick worked counted step sync_runs sync_run entered_2 runs start trace acted ran turn_of done_turn first_serving_2 serve_object state_start digits
+cuts_run = refl
+
 -- A request with start -1 reads or writes the event buffer of its device and ends where it is accepted. Its size is 4, or
 -- 0 to ask for the size; the number written is 0 or that of a buffer. The number stays when its buffer is deleted.
 event_buffers_script : Script
