@@ -1,2 +1,5 @@
 pub mod Checked
 pub mod Refusals
+pub mod Phases
+pub mod Sets
+pub mod InPhase

@@ -1,0 +1,25 @@
+-- Words on the times for which handlers are set, which laws speak in.
+use Rattle.std.specs.Prelude.{◌≡◌, ℕ, ◌+◌, ◌*◌, ◌≤◌, true, List, Option, Some, None, count_by}
+use Rattle.tk_types.specs.declared.task.Event.{Event}
+use Rattle.tk_types.specs.declared.task.Event.TheVariants.{Cyclic}
+use Rattle.tk_types.specs.declared.task.DueEvent.{DueEvent}
+use Rattle.context_model.specs.declared.cyclic_row.CyclicRow.{CyclicRow}
+use Rattle.context_model.specs.Clocks.Tables.{Clocks, cyclic_at, due_time, starts}
+
+-- a time is the first one of a cyclic handler, or lies a whole number of periods behind it
+abbrev pub IsTimeOf : CyclicRow → Option ℕ → Type 0
+IsTimeOf k None = Unit {0}
+IsTimeOf k (Some time) = (n : ℕ) × (time ≡ k.first + n * k.period)
+
+-- a handler that keeps its phase is set for a time of it; one that isn't there isn't set
+abbrev pub IsInPhase : Option CyclicRow → Option ℕ → Type 0
+IsInPhase None due = due ≡ None
+IsInPhase (Some k) due = k.phased ≡ true → IsTimeOf k due
+
+-- so are all cyclic handlers
+pub record AreInPhase (c : Clocks) (events : List DueEvent) : Type 0 where
+  pub each : (id : ℕ) → IsInPhase (cyclic_at c id) (due_time (Cyclic id) events)
+
+-- how often a handler is set
+abbrev pub set_count : Event → List DueEvent → ℕ
+set_count what events = count_by (starts what) events
