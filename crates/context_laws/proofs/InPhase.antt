@@ -37,12 +37,12 @@ free_is id [] found = absurd (cc found)
 free_is id (None ∷ slots) found = (0, omega arith, refl)
 free_is id (Some k ∷ slots) found = let rest = free_is (id + 1) slots found in (suc rest.0, (let same : free_from (id + 1) slots ≡ id + 1 + rest.0 = rest.1 in omega (arith, same)), rest.2)
 
-written_at : {A : Type 0} (P : Option A → Type 0) (xs : List (Option A)) (i : ℕ) (y : Option A) → slice_get xs i ≡ Some None → P y → P (entry (slice_set xs i y) i)
+pub written_at : {A : Type 0} (P : Option A → Type 0) (xs : List (Option A)) (i : ℕ) (y : Option A) → slice_get xs i ≡ Some None → P y → P (entry (slice_set xs i y) i)
 written_at P [] i y there is = absurd (cc there)
 written_at P (x ∷ xs) zero y there is = is
 written_at P (x ∷ xs) (suc i) y there is = written_at P xs i y there is
 
-free_slot : {A : Type 0} (table : List (Option A)) → (free_from 1 (drop 1 table) == 0) ≡ false → slice_get table (free_from 1 (drop 1 table)) ≡ Some None
+pub free_slot : {A : Type 0} (table : List (Option A)) → (free_from 1 (drop 1 table) == 0) ≡ false → slice_get table (free_from 1 (drop 1 table)) ≡ Some None
 free_slot {A = A} [] found = let none = free_is {A = A} 1 [] found in absurd (cc none.2)
 free_slot (x ∷ xs) found =
     let at = free_is 1 xs found in

@@ -3,3 +3,5 @@ pub mod Refusals
 pub mod Phases
 pub mod Sets
 pub mod InPhase
+pub mod Starts
+pub mod SetOnce
