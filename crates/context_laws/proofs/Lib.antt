@@ -5,3 +5,9 @@ pub mod Sets
 pub mod InPhase
 pub mod Starts
 pub mod SetOnce
+pub mod Lists
+pub mod Existing
+pub mod QueueLists
+pub mod Listings
+pub mod Nesting
+pub mod SystemTime

@@ -1,8 +1,10 @@
--- Words on the times for which handlers are set, which laws speak in.
-use Rattle.std.specs.Prelude.{◌≡◌, ℕ, ◌+◌, ◌*◌, ◌≤◌, true, List, Option, Some, None, count_by}
+-- Words on time, which laws speak in: the times for which handlers are set, and which call sets the system time.
+use Rattle.std.specs.Prelude.{◌≡◌, ℕ, ◌+◌, ◌*◌, ◌≤◌, Bool, true, false, List, Option, Some, None, count_by}
 use Rattle.tk_types.specs.declared.task.Event.{Event}
 use Rattle.tk_types.specs.declared.task.Event.TheVariants.{Cyclic}
 use Rattle.tk_types.specs.declared.task.DueEvent.{DueEvent}
+use Rattle.tk_types.specs.declared.calls.TimeCall.{TimeCall}
+use Rattle.tk_types.specs.declared.calls.TimeCall.TheVariants.{SetTim}
 use Rattle.context_model.specs.declared.cyclic_row.CyclicRow.{CyclicRow}
 use Rattle.context_model.specs.Clocks.Tables.{Clocks, cyclic_at, due_time, starts}
 
@@ -23,3 +25,8 @@ pub record AreInPhase (c : Clocks) (events : List DueEvent) : Type 0 where
 -- how often a handler is set
 abbrev pub set_count : Event → List DueEvent → ℕ
 set_count what events = count_by (starts what) events
+
+-- whether a call sets the system time
+abbrev pub sets_time : TimeCall → Bool
+sets_time (SetTim high low) = true
+sets_time _ = false
