@@ -1,20 +1,19 @@
 -- Cyclic handlers that keep their phase are set for times of it, through every call on time and through a tick.
-use Rattle.std.proofs.Common.{◌≡◌, ℕ, suc, zero, ◌+◌, ◌*◌, ◌<◌, ◌≤◌, Bool, true, false, not, List, [], ◌∷◌, length, Option, Some, None, refl, cond, ◌∙◌, ap, sym, subst, ℤ, pos, negsuc, arith}
+use Rattle.std.proofs.Common.{◌≡◌, ℕ, suc, zero, ◌+◌, ◌*◌, Bool, true, false, not, List, [], ◌∷◌, Option, Some, None, refl, cond, ◌∙◌, ap, sym, subst, pos, arith}
 use Rattle.std.specs.Prelude.{nat_le, drop, slice_get, slice_set, replicate}
 use Rattle.std.specs.Bool.{◌==◌}
 use Rattle.std.specs.List.{find}
-use Rattle.std.specs.Option.{option_map, option_flatten, is_some}
+use Rattle.std.specs.Option.{option_map, option_flatten}
 use Rattle.std.specs.Prelude.{int_le}
 use Rattle.std.proofs.lemmas.Bool.Decides.{nat_tests}
 use Rattle.tk_types.specs.declared.error_code.Er.TheVariants as er
-use Rattle.tk_types.specs.declared.modes.Attributes.{Attributes}
 use Rattle.tk_types.specs.declared.task.Event.{Event}
 use Rattle.tk_types.specs.declared.task.Event.TheVariants.{Wait, Cyclic, Alarm}
 use Rattle.tk_types.specs.declared.task.DueEvent.{DueEvent}
 use Rattle.tk_types.specs.declared.calls.TimeCall.{TimeCall}
 use Rattle.tk_types.specs.declared.calls.TimeCall.TheVariants as time
 use Rattle.kernel_model.specs.Words.Checks.{Check, ◌otherwise◌, natural, first_error}
-use Rattle.kernel_model.specs.Words.Events.{is_wait_of, left_after, is_due}
+use Rattle.kernel_model.specs.Words.Events.{is_wait_of, left_after}
 use Rattle.kernel_model.specs.Words.Orders.{entry, free_from}
 use Rattle.kernel_model.specs.SemFlags.Calls.{object_checks}
 use Rattle.kernel_model.specs.Tasks.Base.{Base, add_event, drop_wait, take_due}
@@ -66,9 +65,11 @@ turned id j apart = grind (arith, nat_tests, apart)
 
 -- one handler is set for a time, and the others stay
 pub in_phase_set : (c : Clocks) (b : Base) (id time : ℕ) → IsInPhase (cyclic_at c id) (Some time) → AreInPhase c b.events → AreInPhase c (set_for b time (Cyclic id)).events
-in_phase_set c b id time is are = record { each = λ j. by_id (λ n. IsInPhase (cyclic_at c n) (due_time (Cyclic n) (set_for b time (Cyclic id)).events)) id j (j == id) refl
-    (subst (λ (due : Option ℕ). IsInPhase (cyclic_at c id) due) (sym (due_set b time (Cyclic id))) is)
-    (λ apart. subst (λ (due : Option ℕ). IsInPhase (cyclic_at c j) due) (sym (due_other b time (Cyclic id) (Cyclic j) (turned id j apart))) (are.each j)) }
+in_phase_set c b id time is are = record {
+  each = λ j. by_id (λ n. IsInPhase (cyclic_at c n) (due_time (Cyclic n) (set_for b time (Cyclic id)).events)) id j (j == id) refl
+      (subst (λ (due : Option ℕ). IsInPhase (cyclic_at c id) due) (sym (due_set b time (Cyclic id))) is)
+      (λ apart. subst (λ (due : Option ℕ). IsInPhase (cyclic_at c j) due) (sym (due_other b time (Cyclic id) (Cyclic j) (turned id j apart))) (are.each j));
+}
 
 -- an event of another kind is set or taken back
 in_phase_same : (c : Clocks) (events later : List DueEvent) → ((id : ℕ) → due_time (Cyclic id) later ≡ due_time (Cyclic id) events) → AreInPhase c events → AreInPhase c later
@@ -76,9 +77,11 @@ in_phase_same c events later same are = record { each = λ id. subst (λ (due : 
 
 -- one handler is taken back
 in_phase_unset : (c : Clocks) (b : Base) (id : ℕ) → AreInPhase c b.events → AreInPhase c (unset b (Cyclic id)).events
-in_phase_unset c b id are = record { each = λ j. by_id (λ n. IsInPhase (cyclic_at c n) (due_time (Cyclic n) (unset b (Cyclic id)).events)) id j (j == id) refl
-    (subst (λ (due : Option ℕ). IsInPhase (cyclic_at c id) due) (sym (due_gone b (Cyclic id))) (stopped_is (cyclic_at c id)))
-    (λ apart. subst (λ (due : Option ℕ). IsInPhase (cyclic_at c j) due) (sym (due_left b (Cyclic id) (Cyclic j) (turned id j apart))) (are.each j)) }
+in_phase_unset c b id are = record {
+  each = λ j. by_id (λ n. IsInPhase (cyclic_at c n) (due_time (Cyclic n) (unset b (Cyclic id)).events)) id j (j == id) refl
+      (subst (λ (due : Option ℕ). IsInPhase (cyclic_at c id) due) (sym (due_gone b (Cyclic id))) (stopped_is (cyclic_at c id)))
+      (λ apart. subst (λ (due : Option ℕ). IsInPhase (cyclic_at c j) due) (sym (due_left b (Cyclic id) (Cyclic j) (turned id j apart))) (are.each j));
+}
 
 -- ---- a call
 
@@ -93,10 +96,12 @@ was_free : (slot : Option CyclicRow) (due : Option ℕ) (row : Option (Option Cy
 was_free slot due row free is fits = let none : slot ≡ None = is ∙ ap option_flatten free in subst (λ (s : Option CyclicRow). IsInPhase s due) none fits
 
 created_fits : (b : Base) (c : Clocks) (started : Bool) (id : ℕ) (k : CyclicRow) → slice_get c.cyclics id ≡ Some None → AreInPhase c b.events → Fits (created_cyclic b c started id k)
-created_fits b c true id k free are = record { each = entry_each (λ n slot. IsInPhase slot (due_time (Cyclic n) (set_for b k.first (Cyclic id)).events)) c.cyclics id (Some k)
-    (written_at (λ slot. IsInPhase slot (due_time (Cyclic id) (set_for b k.first (Cyclic id)).events)) c.cyclics id (Some k) free
-        (λ phased. subst (λ (due : Option ℕ). IsTimeOf k due) (sym (due_set b k.first (Cyclic id))) (0, omega arith)))
-    (λ j apart. subst (λ (due : Option ℕ). IsInPhase (cyclic_at c j) due) (sym (due_other b k.first (Cyclic id) (Cyclic j) (unequal id j apart))) (are.each j)) }
+created_fits b c true id k free are = record {
+  each = entry_each (λ n slot. IsInPhase slot (due_time (Cyclic n) (set_for b k.first (Cyclic id)).events)) c.cyclics id (Some k)
+      (written_at (λ slot. IsInPhase slot (due_time (Cyclic id) (set_for b k.first (Cyclic id)).events)) c.cyclics id (Some k) free
+      (λ phased. subst (λ (due : Option ℕ). IsTimeOf k due) (sym (due_set b k.first (Cyclic id))) (0, omega arith)))
+      (λ j apart. subst (λ (due : Option ℕ). IsInPhase (cyclic_at c j) due) (sym (due_other b k.first (Cyclic id) (Cyclic j) (unequal id j apart))) (are.each j));
+}
   where
     unequal : (id j : ℕ) → (j ≡ id → ⊥) → is_event (Cyclic j) (Cyclic id) ≡ false
     unequal id j apart = by_test (id == j) refl
@@ -104,17 +109,21 @@ created_fits b c true id k free are = record { each = entry_each (λ n slot. IsI
         by_test : (test : Bool) → (id == j) ≡ test → (id == j) ≡ false
         by_test true is = absurd (apart (grind (arith, nat_tests, is)))
         by_test false is = is
-created_fits b c false id k free are = record { each = entry_each (λ n slot. IsInPhase slot (due_time (Cyclic n) b.events)) c.cyclics id (Some k)
-    (written_at (λ slot. IsInPhase slot (due_time (Cyclic id) b.events)) c.cyclics id (Some k) free
-        (λ phased. subst (λ (due : Option ℕ). IsTimeOf k due) (sym (was_free (cyclic_at c id) (due_time (Cyclic id) b.events) (slice_get c.cyclics id) free refl (are.each id))) tt))
-    (λ j apart. are.each j) }
+created_fits b c false id k free are = record {
+  each = entry_each (λ n slot. IsInPhase slot (due_time (Cyclic n) b.events)) c.cyclics id (Some k)
+      (written_at (λ slot. IsInPhase slot (due_time (Cyclic id) b.events)) c.cyclics id (Some k) free
+      (λ phased. subst (λ (due : Option ℕ). IsTimeOf k due) (sym (was_free (cyclic_at c id) (due_time (Cyclic id) b.events) (slice_get c.cyclics id) free refl (are.each id))) tt))
+      (λ j apart. are.each j);
+}
 
 deleted_fits : (b : Base) (c : Clocks) (id : ℕ) → AreInPhase c b.events → AreInPhase (with_cyclic c id None) (unset b (Cyclic id)).events
 deleted_fits b c id are =
     let unset_are : AreInPhase c (unset b (Cyclic id)).events = in_phase_unset c b id are in
-    record { each = entry_each (λ n slot. IsInPhase slot (due_time (Cyclic n) (unset b (Cyclic id)).events)) c.cyclics id None
-        (entry_same (λ slot. IsInPhase slot (due_time (Cyclic id) (unset b (Cyclic id)).events)) c.cyclics id None (due_gone b (Cyclic id)) (due_gone b (Cyclic id)))
-        (λ j apart. unset_are.each j) }
+    record {
+      each = entry_each (λ n slot. IsInPhase slot (due_time (Cyclic n) (unset b (Cyclic id)).events)) c.cyclics id None
+          (entry_same (λ slot. IsInPhase slot (due_time (Cyclic id) (unset b (Cyclic id)).events)) c.cyclics id None (due_gone b (Cyclic id)) (due_gone b (Cyclic id)))
+          (λ j apart. unset_are.each j);
+    }
 
 unless_set : (c : Clocks) (b : Base) (id time : ℕ) (set : Bool) → IsInPhase (cyclic_at c id) (Some time) → AreInPhase c b.events → AreInPhase c (cond set b (set_for b time (Cyclic id))).events
 unless_set c b id time true is are = are
@@ -169,9 +178,10 @@ pub start_in_phase : AreInPhase clocks_start []
 start_in_phase = record { each = λ id. subst (λ (slot : Option CyclicRow). IsInPhase slot None) (sym (no_slot 65 id)) refl }
 
 pub waits_in_phase : (c : Clocks) (b : Base) (t due : ℕ) → AreInPhase c b.events → AreInPhase c (add_event b due (Wait t)).events × AreInPhase c (drop_wait b t).events
-waits_in_phase c b t due are =
-    (in_phase_same c b.events _ (λ id. event_kept (Cyclic id) b due (Wait t) refl) are,
-    in_phase_same c b.events _ (λ id. event_dropped (Cyclic id) b t (λ what is. apart id what is)) are)
+waits_in_phase c b t due are = (
+  in_phase_same c b.events _ (λ id. event_kept (Cyclic id) b due (Wait t) refl) are,
+  in_phase_same c b.events _ (λ id. event_dropped (Cyclic id) b t (λ what is. apart id what is)) are,
+)
   where
     apart : (id : ℕ) (what : Event) → is_wait_of t what ≡ true → is_event (Cyclic id) what ≡ false
     apart id (Wait u) is = refl
@@ -202,13 +212,15 @@ again_fits b c event rest id (Some k) is at now are =
     let set : due_time (Cyclic id) (event ∷ rest) ≡ Some event.time = first_same (Cyclic id) event rest (ap (λ what. is_event (Cyclic id) what) is ∙ itself id) in
     let here : IsInPhase (Some k) (due_time (Cyclic id) (event ∷ rest)) = subst (λ (slot : Option CyclicRow). IsInPhase slot (due_time (Cyclic id) (event ∷ rest))) at (are.each id) in
     let later : IsInPhase (Some k) (Some (b.time + k.period)) = λ phased. one_more k b.time (subst (λ (due : Option ℕ). IsTimeOf k due) (set ∙ ap (λ n. Some n) now) (here phased)) in
-    record { each = λ j. by_id (λ n. IsInPhase (cyclic_at c n) (due_time (Cyclic n) (set_for (record b { events = rest }) (b.time + k.period) (Cyclic id)).events)) id j (j == id) refl
-        (subst (λ (slot : Option CyclicRow). IsInPhase slot (due_time (Cyclic id) (set_for (record b { events = rest }) (b.time + k.period) (Cyclic id)).events)) (sym at)
-            (subst (λ (due : Option ℕ). IsInPhase (Some k) due) (sym (due_set (record b { events = rest }) (b.time + k.period) (Cyclic id))) later))
-        (λ apart. subst (λ (due : Option ℕ). IsInPhase (cyclic_at c j) due)
-            (sym (due_other (record b { events = rest }) (b.time + k.period) (Cyclic id) (Cyclic j) (turned id j apart)
-                ∙ sym (first_other (Cyclic j) event rest (ap (λ what. is_event (Cyclic j) what) is ∙ turned id j apart))))
-            (are.each j)) }
+    record {
+      each = λ j. by_id (λ n. IsInPhase (cyclic_at c n) (due_time (Cyclic n) (set_for (record b { events = rest }) (b.time + k.period) (Cyclic id)).events)) id j (j == id) refl
+          (subst (λ (slot : Option CyclicRow). IsInPhase slot (due_time (Cyclic id) (set_for (record b { events = rest }) (b.time + k.period) (Cyclic id)).events)) (sym at)
+          (subst (λ (due : Option ℕ). IsInPhase (Some k) due) (sym (due_set (record b { events = rest }) (b.time + k.period) (Cyclic id))) later))
+          (λ apart. subst (λ (due : Option ℕ). IsInPhase (cyclic_at c j) due)
+          (sym (due_other (record b { events = rest }) (b.time + k.period) (Cyclic id) (Cyclic j) (turned id j apart)
+          ∙ sym (first_other (Cyclic j) event rest (ap (λ what. is_event (Cyclic j) what) is ∙ turned id j apart))))
+          (are.each j));
+    }
 
 taken_fits : (b : Base) (c : Clocks) (event : DueEvent) (rest : List DueEvent) (what : Event) → event.what ≡ what → event.time ≡ b.time → AreInPhase c (event ∷ rest) → Passes b c rest what
 unfolding again
@@ -225,4 +237,4 @@ due_now event rest now at =
 pub tick_in_phase : (b : Base) (c : Clocks) (event : DueEvent) (rest : List DueEvent) → b.events ≡ event ∷ rest → event.time ≡ b.time → AreInPhase c b.events → AreInPhase c (again (take_due b) c event.what).events
 tick_in_phase b c event rest is now are =
     subst (λ (events : List DueEvent). AreInPhase c (again (record b { events = events }) c event.what).events) (sym (ap (left_after b.time) is ∙ due_now event rest b.time now))
-        (taken_fits b c event rest event.what refl now (subst (λ (events : List DueEvent). AreInPhase c events) is are))
+    (taken_fits b c event rest event.what refl now (subst (λ (events : List DueEvent). AreInPhase c events) is are))

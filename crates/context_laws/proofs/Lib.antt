@@ -11,3 +11,4 @@ pub mod QueueLists
 pub mod Listings
 pub mod Nesting
 pub mod SystemTime
+pub mod Definitions

@@ -1,7 +1,6 @@
 -- The calls that list IDs do what a list is.
-use Rattle.std.proofs.Common.{◌≡◌, ℕ, suc, zero, ◌+◌, ◌*◌, ◌<◌, ◌≤◌, Bool, true, false, List, [], ◌∷◌, ◌⊎◌, None, length, take, refl, ◌∙◌, ap, sym, subst, ℤ, pos, arith, length-take}
+use Rattle.std.proofs.Common.{◌≡◌, ℕ, ◌+◌, ◌*◌, ◌<◌, ◌≤◌, Bool, true, List, ◌∷◌, ◌⊎◌, None, length, take, refl, sym, subst, ℤ, pos, arith, length-take}
 use Rattle.std.specs.Prelude.{int_le, nat_le}
-use Rattle.std.specs.Option.{is_some}
 use Rattle.std.proofs.lemmas.Bool.Decides.{nat_tests}
 use Rattle.tk_types.specs.declared.answer.Who.{Who}
 use Rattle.tk_types.specs.declared.calls.HookCall.{HookCall}
@@ -10,7 +9,7 @@ use Rattle.kernel_model.specs.LawWords.Once.{AreBelow}
 use Rattle.kernel_model.specs.Words.Checks.{Check, ◌otherwise◌, first_error, within}
 use Rattle.tk_types.specs.declared.error_code.Er.TheVariants as er
 use Rattle.kernel_model.specs.Bodies.Statements.{memory_size}
-use Rattle.kernel_model.specs.Tasks.Base.{Base, ready_of}
+use Rattle.kernel_model.specs.Tasks.Base.{ready_of}
 use Rattle.kernel_model.specs.Tasks.Queues.{queue_at}
 use Rattle.object_model.specs.Mails.Calls.{is_inside}
 use Rattle.context_model.specs.Hooks.Tables.{Hooks, Views}
@@ -39,11 +38,11 @@ listing hooks memory ids address most inside below =
     let few : length some ≤ most = fewer most ids in
     let bytes : length (id_bytes some) ≡ 4 * length some = bytes_length some in
     record {
-        answer = refl;
-        written = written_ids memory address some (omega (arith, inside)) (below_take 4294967296 most ids below);
-        others = λ place apart. other_bytes memory (id_bytes some) address place (omega (arith, inside)) (subst (λ (n : ℕ). (place < address) ⊎ (address + n ≤ place)) (sym bytes) apart);
-        size = same_size memory (id_bytes some) address (omega (arith, inside, few, bytes));
-        same_hooks = refl;
+      answer = refl;
+      written = written_ids memory address some (omega (arith, inside)) (below_take 4294967296 most ids below);
+      others = λ place apart. other_bytes memory (id_bytes some) address place (omega (arith, inside)) (subst (λ (n : ℕ). (place < address) ⊎ (address + n ≤ place)) (sym bytes) apart);
+      size = same_size memory (id_bytes some) address (omega (arith, inside, few, bytes));
+      same_hooks = refl;
     }
 
 -- ---- the checks
@@ -68,16 +67,16 @@ pub existing_listed : (hooks : Hooks) (memory : List ℕ) (address most : ℕ) (
 unfolding list_existing
 existing_listed hooks memory address most exists greatest few size inside =
     subst (λ (result : HookDone). AreListed (existing exists greatest) hooks memory address most result)
-        (sym (works (place_checks (pos address) (pos most)) hooks memory (listed hooks memory (pos address) (pos most) (existing exists greatest)) (place_passes address most inside)))
-        (listing hooks memory (existing exists greatest) address most (omega (arith, size, inside)) (existing_below exists greatest few))
+    (sym (works (place_checks (pos address) (pos most)) hooks memory (listed hooks memory (pos address) (pos most) (existing exists greatest)) (place_passes address most inside)))
+    (listing hooks memory (existing exists greatest) address most (omega (arith, size, inside)) (existing_below exists greatest few))
 
 pub queue_listed : (v : Views) (hooks : Hooks) (memory : List ℕ) (id address most : ℕ) (exists : ℕ → Bool) (object : ℕ → ℕ) → length v.base.tasks ≡ 256 → length memory ≡ 65536 → address + 4 * most ≤ 65536 → 1 ≤ id → id ≤ 64 → exists id ≡ true →
     AreListed (queue_at v.base (object id)) hooks memory address most (list_queue v hooks memory (pos id) (pos address) (pos most) exists object)
 unfolding list_queue
 queue_listed v hooks memory id address most exists object slots size inside least last is =
     subst (λ (result : HookDone). AreListed (queue_at v.base (object id)) hooks memory address most result)
-        (sym (works (queue_checks (pos id) (pos address) (pos most) exists) hooks memory (listed hooks memory (pos address) (pos most) (queue_at v.base (object id))) passes))
-        (listing hooks memory (queue_at v.base (object id)) address most (omega (arith, size, inside)) (queue_at_below v.base (object id) slots))
+    (sym (works (queue_checks (pos id) (pos address) (pos most) exists) hooks memory (listed hooks memory (pos address) (pos most) (queue_at v.base (object id))) passes))
+    (listing hooks memory (queue_at v.base (object id)) address most (omega (arith, size, inside)) (queue_at_below v.base (object id) slots))
   where
     passes : first_error (queue_checks (pos id) (pos address) (pos most) exists) ≡ None
     passes = rw (id_passes 1 64 id least last, from_zero most, inside_passes address most inside, is) refl
@@ -87,8 +86,8 @@ pub ready_listed : (v : Views) (hooks : Hooks) (memory : List ℕ) (who : Who) (
 unfolding hook_call list_ready
 ready_listed v hooks memory who priority address most slots size inside least last =
     subst (λ (result : HookDone). AreListed (ready_of v.base priority) hooks memory address most result)
-        (sym (works ((within 1 140 (pos priority) otherwise er.Par) ∷ place_checks (pos address) (pos most)) hooks memory (listed hooks memory (pos address) (pos most) (ready_of v.base priority)) passes))
-        (listing hooks memory (ready_of v.base priority) address most (omega (arith, size, inside)) (ready_below v.base priority slots))
+    (sym (works ((within 1 140 (pos priority) otherwise er.Par) ∷ place_checks (pos address) (pos most)) hooks memory (listed hooks memory (pos address) (pos most) (ready_of v.base priority)) passes))
+    (listing hooks memory (ready_of v.base priority) address most (omega (arith, size, inside)) (ready_below v.base priority slots))
   where
     passes : first_error ((within 1 140 (pos priority) otherwise er.Par) ∷ place_checks (pos address) (pos most)) ≡ None
     passes = rw (id_passes 1 140 priority least last, from_zero most, inside_passes address most inside) refl

@@ -1,11 +1,10 @@
 -- Lists of IDs: what stands in them, and what is read of them in the script's memory.
-use Rattle.std.proofs.Common.{◌≡◌, ℕ, suc, zero, ◌+◌, ◌-◌, ◌*◌, ◌/◌, ◌%◌, ◌<◌, ◌≤◌, ◌⊎◌, inl, inr, Bool, true, false, not, List, [], ◌∷◌, ◌++◌, length, take, drop, get_or, refl, cond, ◌∙◌, ap, sym, subst, ℤ, pos, arith}
+use Rattle.std.proofs.Common.{◌≡◌, ℕ, suc, zero, ◌+◌, ◌-◌, ◌*◌, ◌/◌, ◌%◌, ◌<◌, ◌≤◌, ◌⊎◌, inl, inr, List, [], ◌∷◌, ◌++◌, length, take, drop, refl, ◌∙◌, ap, sym, arith}
 use Rattle.std.specs.Prelude.{slice_index}
 use Rattle.std.specs.Int.{w32, to_le_bytes}
-use Rattle.std.specs.List.{flat_map}
 use Rattle.kernel_model.specs.LawWords.Once.{AreBelow}
 use Rattle.object_model.specs.Mails.Bytes.{with_bytes}
-use Rattle.context_model.specs.Hooks.Lists.{id_bytes, with_ids}
+use Rattle.context_model.specs.Hooks.Lists.{id_bytes}
 use Rattle.context_model.specs.Hooks.Readings.{number_at, numbers_at}
 use Rattle.std.proofs.lemmas.List.{get_or-append-add, get_or_append_left, get_or-append_right, get_or-take, get_or-drop, length-append}
 use Rattle.std.proofs.Common.{length-take, length-drop}
@@ -40,9 +39,9 @@ read_all (id ∷ ids) front behind below =
     let one : number_at memory (length front) ≡ id = ap (λ bytes. number_at bytes (length front)) split ∙ read_one front (id_bytes ids ++ behind) id below.0 in
     let place : length front + 4 ≡ length (front ++ to_le_bytes w32 id) = sym (length-append front (to_le_bytes w32 id)) in
     let others : numbers_at (length ids) memory (length front + 4) ≡ ids =
-        ap (λ bytes. numbers_at (length ids) bytes (length front + 4)) joined
-        ∙ ap (λ at. numbers_at (length ids) ((front ++ to_le_bytes w32 id) ++ (id_bytes ids ++ behind)) at) place
-        ∙ read_all ids (front ++ to_le_bytes w32 id) behind below.1 in
+    ap (λ bytes. numbers_at (length ids) bytes (length front + 4)) joined
+    ∙ ap (λ at. numbers_at (length ids) ((front ++ to_le_bytes w32 id) ++ (id_bytes ids ++ behind)) at) place
+    ∙ read_all ids (front ++ to_le_bytes w32 id) behind below.1 in
     ap (λ first. first ∷ numbers_at (length ids) memory (length front + 4)) one ∙ ap (λ rest. id ∷ rest) others
 
 pub bytes_length : (ids : List ℕ) → length (id_bytes ids) ≡ 4 * length ids

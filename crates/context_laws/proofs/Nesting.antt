@@ -1,16 +1,15 @@
 -- How deep tasks are in nested services.
-use Rattle.std.proofs.Common.{◌≡◌, ℕ, suc, zero, ◌+◌, ◌-◌, ◌<◌, ◌≤◌, Bool, true, false, not, List, [], ◌∷◌, length, Some, None, refl, cond, ◌∙◌, ap, sym, subst, ℤ, pos, arith}
-use Rattle.std.specs.Prelude.{int_le, nat_lt, slice_index, slice_set, ◌||◌}
-use Rattle.std.specs.Bool.{◌==◌}
+use Rattle.std.proofs.Common.{◌≡◌, ℕ, suc, zero, ◌+◌, ◌-◌, ◌<◌, ◌≤◌, Bool, true, false, List, [], ◌∷◌, length, Some, None, refl, cond, ◌∙◌, ap, sym, ℤ, pos, arith}
+use Rattle.std.specs.Prelude.{int_le, nat_lt, slice_index, slice_set}
 use Rattle.std.proofs.lemmas.Bool.Decides.{nat_tests}
 use Rattle.tk_types.specs.declared.answer.Who.{Who}
 use Rattle.tk_types.specs.declared.answer.Who.TheVariants as whos
-use Rattle.tk_types.specs.declared.answer.Outcome.TheVariants.{Returned, Entered}
+use Rattle.tk_types.specs.declared.answer.Outcome.TheVariants.{Entered}
 use Rattle.tk_types.specs.declared.error_code.Er.TheVariants as er
 use Rattle.tk_types.specs.declared.calls.ContextCall.{ContextCall}
 use Rattle.tk_types.specs.declared.calls.ContextCall.TheVariants as context
 use Rattle.kernel_model.specs.declared.marks.Mark.TheVariants.{NeedsTask}
-use Rattle.kernel_model.specs.Words.Checks.{Check, ◌otherwise◌, first_error, within, natural, failed, done}
+use Rattle.kernel_model.specs.Words.Checks.{Check, ◌otherwise◌, first_error, within, natural, failed}
 use Rattle.kernel_model.specs.Tasks.Base.{Base}
 use Rattle.kernel_model.specs.Tasks.Calls.{caller}
 use Rattle.kernel_model.specs.Tasks.Marks.{allows}
@@ -20,12 +19,12 @@ use Rattle.context_laws.proofs.Checked.{context_cases, holds_at}
 
 -- ---- lists of numbers with one written
 
-same_place : (xs : List ℕ) (i y : ℕ) → i < length xs → slice_index (slice_set xs i y) i ≡ y
+pub same_place : (xs : List ℕ) (i y : ℕ) → i < length xs → slice_index (slice_set xs i y) i ≡ y
 same_place [] i y inside = absurd (omega (arith, inside))
 same_place (x ∷ xs) zero y inside = refl
 same_place (x ∷ xs) (suc i) y inside = same_place xs i y (omega (arith, inside))
 
-other_place : (xs : List ℕ) (i j y : ℕ) → (j ≡ i → ⊥) → slice_index (slice_set xs i y) j ≡ slice_index xs j
+pub other_place : (xs : List ℕ) (i j y : ℕ) → (j ≡ i → ⊥) → slice_index (slice_set xs i y) j ≡ slice_index xs j
 other_place [] i j y apart = refl
 other_place (x ∷ xs) zero zero y apart = absurd (apart refl)
 other_place (x ∷ xs) zero (suc j) y apart = refl
@@ -74,12 +73,12 @@ enters b c t number value body = context_cases (IfEntered b c t number body) (se
     (record { base = b; table = deeper c t; outcome = Entered (service_of c (natural number)) })
     (λ code is. absurd (cc is))
     (λ none is. record {
-        room = (let fewer : nat_lt (depth_in c t) 8 ≡ true = holds_at 4 (service_checks b c (whos.Task t) number value) none in grind (arith, nat_tests, fewer));
-        entered = cc (sym is);
-        same_base = refl;
-        deeper_by_one = λ inside. same_place c.depths t (depth_in c t + 1) inside;
-        others = λ u apart. other_place c.depths t u (depth_in c t + 1) apart;
-        undone = λ inside. left_again c t inside;
+      room = (let fewer : nat_lt (depth_in c t) 8 ≡ true = holds_at 4 (service_checks b c (whos.Task t) number value) none in grind (arith, nat_tests, fewer));
+      entered = cc (sym is);
+      same_base = refl;
+      deeper_by_one = λ inside. same_place c.depths t (depth_in c t + 1) inside;
+      others = λ u apart. other_place c.depths t u (depth_in c t + 1) apart;
+      undone = λ inside. left_again c t inside;
     })
 
 from_zero : (n : ℕ) → int_le (pos 0) (pos n) ≡ true

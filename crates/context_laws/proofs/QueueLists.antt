@@ -1,6 +1,6 @@
 -- The queue of an object as it stands: its order is that of the object, each waiter stands in it once, and its IDs are below
 -- 2^32.
-use Rattle.std.proofs.Common.{◌≡◌, ℕ, suc, zero, ◌+◌, ◌<◌, ◌≤◌, Bool, true, false, List, [], ◌∷◌, length, Option, Some, None, refl, cond, ◌∙◌, ap, sym, subst, arith}
+use Rattle.std.proofs.Common.{◌≡◌, ℕ, ◌<◌, ◌≤◌, Bool, true, false, List, [], ◌∷◌, length, Option, Some, None, refl, cond, ◌∙◌, ap, sym, subst, arith}
 use Rattle.std.specs.Prelude.{nat_lt, ◌&&◌}
 use Rattle.std.specs.Bool.{◌==◌}
 use Rattle.std.specs.List.{filter, fold}
@@ -12,12 +12,12 @@ use Rattle.tk_types.specs.declared.task.Order.{Order}
 use Rattle.tk_types.specs.declared.task.Order.TheVariants.{Fifo, Priority}
 use Rattle.kernel_model.specs.LawWords.Once.{times, IsOnce, AreBelow}
 use Rattle.kernel_model.specs.Words.Orders.{entry, insert_behind, sort_by}
-use Rattle.kernel_model.specs.Tasks.Base.{Base, current, fifo_queue, is_ready_with, may_run, priority_queue, queue, ready_of, task_at, waiting_in, waits_for, waits_in}
+use Rattle.kernel_model.specs.Tasks.Base.{Base, current, fifo_queue, is_ready_with, may_run, queue, ready_of, task_at, waiting_in, waits_for, waits_in}
 use Rattle.kernel_model.specs.Tasks.Queues.{order_at, order_of_first, queue_at, queue_in}
 use Rattle.kernel_model.specs.Tasks.Waits.{FitsPhase, FitsRow, HavePlaces, StandInOrder}
 use Rattle.kernel_lemmas.proofs.ReadyLists.{times_filter_is}
 use Rattle.kernel_lemmas.proofs.Sorting.{times_sort}
-use Rattle.kernel_lemmas.proofs.Tables.{entry_inside, itself}
+use Rattle.kernel_lemmas.proofs.Tables.{entry_inside}
 use Rattle.context_laws.proofs.Existing.{below_those}
 
 -- ---- how great the IDs are

@@ -15,7 +15,7 @@ use Rattle.tk_types.specs.declared.calls.HookCall.{HookCall}
 use Rattle.tk_types.specs.declared.calls.HookCall.TheVariants as hook
 use Rattle.tk_types.specs.declared.error_code.Er.TheVariants as er
 use Rattle.kernel_model.specs.declared.marks.Mark.TheVariants.{NeedsTask}
-use Rattle.kernel_model.specs.Words.Checks.{Check, ◌otherwise◌, within, natural, failed, done}
+use Rattle.kernel_model.specs.Words.Checks.{Check, ◌otherwise◌, within, natural, done}
 use Rattle.kernel_model.specs.Tasks.Base.{Base, ready_of}
 use Rattle.kernel_model.specs.Tasks.Marks.{allows}
 use Rattle.kernel_model.specs.Tasks.Queues.{queue_at}

@@ -1,7 +1,6 @@
 -- A handler is set at most once.
-use Rattle.std.proofs.Common.{◌≡◌, ℕ, suc, zero, ◌+◌, ◌<◌, ◌≤◌, Bool, true, false, not, List, [], ◌∷◌, Option, Some, None, refl, cond, ◌∙◌, ap, sym, subst, ℤ, pos, arith}
-use Rattle.std.specs.Prelude.{nat_le, nat_lt, count_by, filter, int_le, drop}
-use Rattle.std.specs.Bool.{◌==◌}
+use Rattle.std.proofs.Common.{◌≡◌, ℕ, ◌+◌, ◌≤◌, Bool, true, false, not, List, [], ◌∷◌, Option, Some, None, refl, cond, ◌∙◌, ap, sym, subst, pos, arith}
+use Rattle.std.specs.Prelude.{nat_lt, count_by, filter, int_le, drop}
 use Rattle.std.proofs.lemmas.Bool.Decides.{nat_tests}
 use Rattle.std.proofs.lemmas.List.Sums.{sum_by-cons}
 use Rattle.tk_types.specs.declared.error_code.Er.TheVariants as er
@@ -94,7 +93,7 @@ once_if what set b time true is once = subst (λ (other : Event). set_count what
 once_if what set b time false is once =
     let less : set_count what (without_event set b.events) ≤ set_count what b.events = count_less (starts what) (starts set) b.events in
     let count : set_count what (set_for b time set).events ≡ set_count what (without_event set b.events) =
-        count_set (starts what) (record { time = time; key = b.made; what = set }) (without_event set b.events) ∙ ap (λ test. one_if test + set_count what (without_event set b.events)) is ∙ omega arith in
+    count_set (starts what) (record { time = time; key = b.made; what = set }) (without_event set b.events) ∙ ap (λ test. one_if test + set_count what (without_event set b.events)) is ∙ omega arith in
     omega (arith, less, count, once)
 
 once_set : (what set : Event) (b : Base) (time : ℕ) → IsOnceIn what b → IsOnceIn what (set_for b time set)

@@ -1,6 +1,6 @@
 -- What the calls that start and stop handlers leave, where they do their work.
-use Rattle.std.proofs.Common.{◌≡◌, ℕ, zero, suc, ◌+◌, ◌≤◌, Bool, true, false, List, [], ◌∷◌, Option, Some, None, refl, cond, ◌∙◌, ap, sym, subst, ℤ, pos, arith}
-use Rattle.std.specs.Prelude.{int_le, ◌&&◌, drop, not, slice_get}
+use Rattle.std.proofs.Common.{◌≡◌, ℕ, zero, suc, ◌+◌, ◌≤◌, Bool, true, false, List, [], Option, Some, None, refl, cond, ◌∙◌, ap, subst, ℤ, pos, arith}
+use Rattle.std.specs.Prelude.{int_le, drop, not, slice_get}
 use Rattle.std.specs.Bool.{◌==◌}
 use Rattle.std.specs.Option.{is_some, option_flatten}
 use Rattle.std.proofs.lemmas.Bool.Decides.{nat_tests}
@@ -13,13 +13,12 @@ use Rattle.tk_types.specs.Codes.{code_of}
 use Rattle.kernel_model.specs.Words.Orders.{free_from}
 use Rattle.tk_types.specs.declared.task.Event.{Event}
 use Rattle.tk_types.specs.declared.task.Event.TheVariants.{Cyclic, Alarm}
-use Rattle.tk_types.specs.declared.task.DueEvent.{DueEvent}
 use Rattle.tk_types.specs.declared.calls.TimeCall.TheVariants as time
 use Rattle.kernel_model.specs.Words.Checks.{Check, first_error, within, plain}
 use Rattle.kernel_model.specs.SemFlags.Calls.{object_checks}
 use Rattle.kernel_model.specs.Tasks.Base.{Base}
 use Rattle.context_model.specs.declared.cyclic_row.CyclicRow.{CyclicRow}
-use Rattle.context_model.specs.Clocks.Tables.{Clocks, cyclic_at, alarm_at, has_cyc, has_alm, due_time, is_set, unset, set_for, next_due, again, again_in, with_cyclic, with_alarm}
+use Rattle.context_model.specs.Clocks.Tables.{Clocks, cyclic_at, has_cyc, has_alm, due_time, is_set, unset, set_for, next_due, again, again_in, with_cyclic, with_alarm}
 use Rattle.context_model.specs.Clocks.Calls.{TimeDone, time_checked, time_call, worked, created_cyclic, create_cyclic, create_cyclic_checks, free_cyclic, started_cyclic, start_alarm_checks, start_cyclic, stop_cyclic, delete_cyclic, start_alarm, stop_alarm, delete_alarm}
 use Rattle.context_laws.proofs.Checked.{time_cases, holds_at}
 use Rattle.context_laws.proofs.InPhase.{free_slot, written_at}
@@ -150,10 +149,10 @@ Makes b c k started id result = result.outcome ≡ Returned (plain (pos id)) →
 
 made : (b : Base) (c : Clocks) (k : CyclicRow) (started : Bool) (at id : ℕ) → slice_get c.cyclics at ≡ Some None → at ≡ id → IsMade b c k started id (created_cyclic b c started at k)
 made b c k started at id free same = subst (λ (n : ℕ). IsMade b c k started n (created_cyclic b c started at k)) same (record {
-    free = ap option_flatten free;
-    row = written_at (λ slot. slot ≡ Some k) c.cyclics at (Some k) free refl;
-    due = set_if b at k.first started;
-  })
+  free = ap option_flatten free;
+  row = written_at (λ slot. slot ≡ Some k) c.cyclics at (Some k) free refl;
+  due = set_if b at k.first started;
+})
 
 pub created : (b : Base) (c : Clocks) (attributes : Attributes) (body period phase id : ℕ) → 1 ≤ id →
     (time_call b c (time.CreCyc attributes body (pos period) (pos phase))).outcome ≡ Returned (plain (pos id)) →
@@ -163,8 +162,8 @@ created b c attributes body period phase id some =
     let k : CyclicRow = record { body = body; phased = attributes.ta_phs; period = period; first = b.time + phase + 1 } in
     let checks = create_cyclic_checks c attributes (pos period) (pos phase) in
     time_cases (Makes b c k attributes.ta_sta id) checks b c (created_cyclic b c attributes.ta_sta (free_cyclic c) k)
-        (λ code is. absurd (no_id code id some (ap value_in is)))
-        (λ none is. made b c k attributes.ta_sta (free_cyclic c) id (free_slot c.cyclics (not_true (free_from 1 (drop 1 c.cyclics) == 0) (holds_at 3 checks none))) (ap (λ outcome. number_in (value_in outcome)) is))
+    (λ code is. absurd (no_id code id some (ap value_in is)))
+    (λ none is. made b c k attributes.ta_sta (free_cyclic c) id (free_slot c.cyclics (not_true (free_from 1 (drop 1 c.cyclics) == 0) (holds_at 3 checks none))) (ap (λ outcome. number_in (value_in outcome)) is))
   where
     not_true : (test : Bool) → not test ≡ true → test ≡ false
     not_true true is = absurd (cc is)

@@ -1,5 +1,5 @@
 -- The system time goes on from what it was set to.
-use Rattle.std.proofs.Common.{◌≡◌, ℕ, suc, zero, ◌+◌, ◌-◌, ◌*◌, ◌/◌, ◌%◌, ◌^◌, ◌<◌, ◌≤◌, Bool, true, false, List, [], ◌∷◌, Option, Some, None, refl, cond, ◌∙◌, ap, sym, ℤ, pos, arith}
+use Rattle.std.proofs.Common.{◌≡◌, ℕ, suc, zero, ◌+◌, ◌-◌, ◌*◌, ◌/◌, ◌%◌, ◌^◌, ◌≤◌, Bool, true, false, List, [], ◌∷◌, Option, Some, None, refl, cond, ◌∙◌, ap, sym, ℤ, pos, arith}
 use Rattle.std.specs.Prelude.{int_le}
 use Rattle.std.specs.Int.{w32, cast_signed, cast_unsigned}
 use Rattle.std.proofs.lemmas.Bool.Decides.{nat_tests}
@@ -46,6 +46,7 @@ set_and_passed b c high low n =
   where
     to : ℕ
     to = 2 ^ 32 * high + cast_unsigned w32 low
+
     passed : 2 ^ 32 * high + cast_unsigned w32 low + ((after_time n b).time - b.time) ≡ 2 ^ 32 * high + cast_unsigned w32 low + n
     passed = let later = time_after n b in omega (arith, later)
 
@@ -86,6 +87,7 @@ started_time b id (Some k) = either_if k.phased
     inner : (set : Bool) → (cond set b (set_for b (next_due k.first k.period b.time) (Cyclic id))).time ≡ b.time
     inner true = refl
     inner false = refl
+
     either_if : (phased : Bool) → (cond phased (cond (is_set (Cyclic id) b.events) b (set_for b (next_due k.first k.period b.time) (Cyclic id))) (set_for b (b.time + k.period + 1) (Cyclic id))).time ≡ b.time
     either_if true = inner (is_set (Cyclic id) b.events)
     either_if false = refl

@@ -1,5 +1,5 @@
 -- Words on time, which laws speak in: the times for which handlers are set, and which call sets the system time.
-use Rattle.std.specs.Prelude.{◌≡◌, ℕ, ◌+◌, ◌*◌, ◌≤◌, Bool, true, false, List, Option, Some, None, count_by}
+use Rattle.std.specs.Prelude.{◌≡◌, ℕ, ◌+◌, ◌*◌, Bool, true, false, List, Option, Some, None, count_by}
 use Rattle.tk_types.specs.declared.task.Event.{Event}
 use Rattle.tk_types.specs.declared.task.Event.TheVariants.{Cyclic}
 use Rattle.tk_types.specs.declared.task.DueEvent.{DueEvent}
