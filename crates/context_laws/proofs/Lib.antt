@@ -12,3 +12,5 @@ pub mod Listings
 pub mod Nesting
 pub mod SystemTime
 pub mod Definitions
+pub mod Touches
+pub mod Later

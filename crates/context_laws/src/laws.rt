@@ -20,9 +20,9 @@ ghost use Rattle.tk_types.specs.declared.task.Event.TheVariants.{Alarm, Cyclic, 
 ghost use Rattle.tk_types.specs.declared.task.Order.{Order};
 ghost use Rattle.kernel_model.specs.LawWords.Once.{IsOnce, times};
 ghost use Rattle.kernel_model.specs.LawWords.Rising.{IsRisingBy};
-ghost use Rattle.kernel_model.specs.LawWords.TimeOrder.{after_time};
+ghost use Rattle.kernel_model.specs.LawWords.TimeOrder.{AreInTimeOrder, AreLater, after_time};
 ghost use Rattle.kernel_model.specs.SemFlags.Tables.{flag_object, sem_object};
-ghost use Rattle.kernel_model.specs.Tasks.Base.{Base, add_event, advance, drop_wait, queue, ready_of, take_due, waits_for};
+ghost use Rattle.kernel_model.specs.Tasks.Base.{Base, add_event, advance, drop_wait, queue, ready_of, set_flags, take_due, waits_for};
 ghost use Rattle.kernel_model.specs.Tasks.Queues.{queue_at};
 ghost use Rattle.kernel_model.specs.Tasks.Waits.{HavePlaces, StandInOrder};
 ghost use Rattle.kernel_model.specs.Words.Checks.{answer, failed, natural, plain, within};
@@ -31,7 +31,7 @@ ghost use Rattle.object_model.specs.Mutexes.Tables.{has_mutex, mutex_object};
 ghost use Rattle.object_model.specs.Pools.Tables.{fixed_object, has_mpf, has_mpl, variable_object};
 ghost use Rattle.context_model.specs.declared.cyclic_row.CyclicRow.{CyclicRow};
 ghost use Rattle.context_model.specs.Clocks.Calls.{time_call};
-ghost use Rattle.context_model.specs.Clocks.Phases.{AreInPhase, set_count, sets_time};
+ghost use Rattle.context_model.specs.Clocks.Phases.{AreInPhase, ArePeriodic, set_count, sets_time};
 ghost use Rattle.context_model.specs.Clocks.Tables.{Clocks, again, clocks_start, cyclic_at, due_time, halves, has_alm, has_cyc, is_set, next_due, system_time};
 ghost use Rattle.context_model.specs.Contexts.Calls.{context_call};
 ghost use Rattle.context_model.specs.Contexts.Tables.{Contexts, depth_in, handler_of, has_ssy, left, service_of};
@@ -99,6 +99,32 @@ pub fn a_handler_is_set_once_at_most()
         is_set (Alarm id) (time_call b c (time.StpAlm (pos id))).base.events ≡ false }
     ensures deleted_alarm { (b : Base) (c : Clocks) (id : ℕ) → 1 ≤ id → id ≤ 64 → has_alm c id ≡ true →
         is_set (Alarm id) (time_call b c (time.DelAlm (pos id))).base.events ≡ false }
+{}
+
+/// What a call on time sets falls due later than now, and so does a cyclic handler that is set again, since each period is a
+/// millisecond at least; and all that is set stays in the order of due times. So a tick, which adds one millisecond, takes
+/// what is set for just that time.
+pub fn what_is_set_is_later_than_now()
+    ensures start { ArePeriodic clocks_start }
+    ensures periods { (b : Base) (c : Clocks) (call : TimeCall) → ArePeriodic c → ArePeriodic (time_call b c call).table }
+    ensures calls { (b : Base) (c : Clocks) (call : TimeCall) → ArePeriodic c → AreLater b.time b.events → AreLater b.time (time_call b c call).base.events }
+    ensures set_again { (b : Base) (c : Clocks) (what : Event) → ArePeriodic c → AreLater b.time b.events → AreLater b.time (again b c what).events }
+    ensures order { (b : Base) (c : Clocks) (call : TimeCall) → ArePeriodic c → AreInTimeOrder b.events → AreInTimeOrder (time_call b c call).base.events }
+    ensures order_again { (b : Base) (c : Clocks) (what : Event) → ArePeriodic c → AreInTimeOrder b.events → AreInTimeOrder (again b c what).events }
+{}
+
+/// A call on time changes nothing of the base but what is set for a time, and makes one event at most; so does a handler that
+/// is set again. A call on contexts changes nothing of the base but what delays dispatching, and not whether a handler runs.
+pub fn calls_on_time_and_contexts_touch_no_task()
+    ensures time { (b : Base) (c : Clocks) (call : TimeCall) →
+        let after = (time_call b c call).base in
+        (after ≡ record b { events = after.events; made = after.made }) × (after.made ≤ b.made + 1) }
+    ensures set_again { (b : Base) (c : Clocks) (what : Event) →
+        let after = again b c what in
+        (after ≡ record b { events = after.events; made = after.made }) × (after.made ≤ b.made + 1) }
+    ensures contexts { (b : Base) (c : Contexts) (who : Who) (call : ContextCall) →
+        let after = (context_call b c who call).base in
+        (after ≡ set_flags b after.flags) × (after.flags.handler ≡ b.flags.handler) }
 {}
 
 /// The system time is what it was set to and the milliseconds that have passed since: so many after `tk_set_tim`,

@@ -1,5 +1,5 @@
 -- Words on time, which laws speak in: the times for which handlers are set, and which call sets the system time.
-use Rattle.std.specs.Prelude.{◌≡◌, ℕ, ◌+◌, ◌*◌, Bool, true, false, List, Option, Some, None, count_by}
+use Rattle.std.specs.Prelude.{◌≡◌, ℕ, ◌+◌, ◌*◌, ◌≤◌, Bool, true, false, List, Option, Some, None, count_by}
 use Rattle.tk_types.specs.declared.task.Event.{Event}
 use Rattle.tk_types.specs.declared.task.Event.TheVariants.{Cyclic}
 use Rattle.tk_types.specs.declared.task.DueEvent.{DueEvent}
@@ -21,6 +21,14 @@ IsInPhase (Some k) due = k.phased ≡ true → IsTimeOf k due
 -- so are all cyclic handlers
 pub record AreInPhase (c : Clocks) (events : List DueEvent) : Type 0 where
   pub each : (id : ℕ) → IsInPhase (cyclic_at c id) (due_time (Cyclic id) events)
+
+-- each period is at least one millisecond
+abbrev pub IsPeriodic : Option CyclicRow → Type 0
+IsPeriodic None = Unit {0}
+IsPeriodic (Some k) = 1 ≤ k.period
+
+pub record ArePeriodic (c : Clocks) : Type 0 where
+  pub each : (id : ℕ) → IsPeriodic (cyclic_at c id)
 
 -- how often a handler is set
 abbrev pub set_count : Event → List DueEvent → ℕ
