@@ -6,3 +6,4 @@ pub mod DeviceServings
 pub mod Servings
 pub mod Handing
 pub mod Settling
+pub mod HandingServes
