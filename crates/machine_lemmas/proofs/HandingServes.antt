@@ -154,7 +154,7 @@ passing_if passes id found later true is found_at rest = let e : id ≡ found = 
 passing_if passes id found later false is found_at rest = rest found_at
 
 -- what is found passes
-found_passes : (passes : ℕ → Bool) (ids : List ℕ) (found : ℕ) → find passes ids ≡ Some found → passes found ≡ true
+pub found_passes : (passes : ℕ → Bool) (ids : List ℕ) (found : ℕ) → find passes ids ≡ Some found → passes found ≡ true
 found_passes passes [] found is = absurd (cc is)
 found_passes passes (id ∷ ids) found is = passing_if passes id found (find passes ids) (passes id) refl is (found_passes passes ids found)
 

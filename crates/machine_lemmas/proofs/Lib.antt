@@ -7,3 +7,4 @@ pub mod Servings
 pub mod Handing
 pub mod Settling
 pub mod HandingServes
+pub mod HandedTwice
