@@ -1,7 +1,8 @@
 -- Message buffers: the space that messages take, who can be served, and what serving does. Serving does the first that
 -- applies: a waiting receiver takes the oldest message; a waiting receiver takes the first sender's message, and both
 -- waits end, the receiver's first; the first sender's message fits and goes in.
-use Rattle.std.specs.Prelude.{ℕ, ◌+◌, Bool, true, false, nat_le, ◌&&◌, if◌then◌else◌, pos, length, map, sum, List, [], ◌∷◌, ◌++◌, Option, Some, None, drop}
+use Rattle.std.specs.Prelude.{ℕ, ◌+◌, Bool, true, false, nat_le, ◌&&◌, if◌then◌else◌, pos, length, List, [], ◌∷◌, ◌++◌, Option, Some, None, drop}
+use Rattle.std.specs.List.{sum_by}
 use Rattle.tk_types.specs.declared.task.Order.TheVariants.{Fifo}
 use Rattle.kernel_model.specs.Words.Orders.{taken_from}
 use Rattle.kernel_model.specs.Words.Checks.{plain}
@@ -16,7 +17,7 @@ space_of n = 4 + rounded_up 4 n
 
 -- the space that messages take together
 abbrev pub space_taken : List (List ℕ) → ℕ
-space_taken messages = sum (map (λ message. space_of (length message)) messages)
+space_taken messages = sum_by (λ message. space_of (length message)) messages
 
 -- whether a message fits into what is free
 abbrev pub has_space : MessageBuffer → List ℕ → Bool
