@@ -1,5 +1,5 @@
 -- A call that answers an error has changed nothing.
-use Rattle.std.proofs.Common.{◌≡◌, ℕ, zero, suc, ◌+◌, ◌-◌, Bool, true, false, List, [], ◌∷◌, Option, Some, None, refl, ap, sym, ◌∙◌, ℤ, pos, negsuc, arith}
+use Rattle.std.proofs.Common.{◌≡◌, ℕ, ◌+◌, ◌-◌, Bool, true, false, List, [], ◌∷◌, Option, Some, None, refl, ap, sym, ◌∙◌, ℤ, pos, negsuc, arith}
 use Rattle.std.specs.Prelude.{if◌then◌else◌, nat_lt, not}
 use Rattle.std.specs.Int.{is_negative}
 use Rattle.std.specs.Option.{is_some}
@@ -87,9 +87,9 @@ request_kept p who write descriptor start address size timeout =
     let transfer : Transfer = calls.transfer_of descriptor write start address size in
     let asked_for : Devices = with_wish p.table (caller who) (wish.Acceptance transfer false) in
     checked p (calls.request_checks p who descriptor write start address size timeout []) (calls.requested p (caller who) d transfer timeout)
-        (either p (requests.has_place p.table d) (calls.answers (requests.accept p d id transfer) (pos id)) (calls.waits_or_ends p (caller who) (requests.acceptance_object d) timeout asked_for)
-            (answers_none p (requests.accept p d id transfer) (done (pos id)) id refl)
-            (ends_or_waits p (caller who) (requests.acceptance_object d) timeout asked_for))
+    (either p (requests.has_place p.table d) (calls.answers (requests.accept p d id transfer) (pos id)) (calls.waits_or_ends p (caller who) (requests.acceptance_object d) timeout asked_for)
+    (answers_none p (requests.accept p d id transfer) (done (pos id)) id refl)
+    (ends_or_waits p (caller who) (requests.acceptance_object d) timeout asked_for))
 
 -- a call that stays with a request of its own for anything but the event buffer always waits
 stayed_kept : (p : DevParts) (t d : ℕ) (transfer : Transfer) (start : ℤ) → is_negative start ≡ false → IsKept p (calls.stayed p t d transfer (calls.start_of start))
@@ -102,7 +102,7 @@ whole_kept p who write descriptor start address size is =
     let d : ℕ = calls.device_of p.table (natural descriptor) in
     let transfer : Transfer = calls.transfer_of descriptor write start address size in
     checked p (calls.request_checks p who descriptor write start address size (negsuc 0) ((not (calls.any_waits p (natural descriptor)) otherwise er.Obj) ∷ []))
-        (calls.stayed p (caller who) d transfer (calls.start_of start)) (stayed_kept p (caller who) d transfer start is)
+    (calls.stayed p (caller who) d transfer (calls.start_of start)) (stayed_kept p (caller who) d transfer start is)
 
 life_value : (id : ℕ) (now : Life) (P : ℤ → Type 0) → P (pos id) → P (pos 0) → P (requests.claimed_life false id now).value
 life_value id (life.Ended size error) P one other = one
@@ -127,7 +127,7 @@ unfolding calls.wait_ending
 wait_kept p who descriptor id timeout =
     let asked_for : Wish = calls.ending_wish p.table (natural id) in
     checked p (calls.wait_checks p who descriptor id timeout) (calls.waited p (caller who) (natural descriptor) timeout asked_for)
-        (waited_kept p (caller who) (natural descriptor) timeout asked_for (requests.picked p.table (natural descriptor) asked_for))
+    (waited_kept p (caller who) (natural descriptor) timeout asked_for (requests.picked p.table (natural descriptor) asked_for))
 
 closed_kept : (begun : Bool) (p q : DevParts) (t dd : ℕ) → IsKept p (calls.closed_or_begun begun q t dd)
 closed_kept false p q t dd = answers_none p (requests.with_table q (with_open q.table dd None)) (done (pos 0)) 0 refl
@@ -138,7 +138,7 @@ unfolding calls.close_device
 close_kept p who descriptor =
     let dd : ℕ = natural descriptor in
     checked p (calls.close_checks p who descriptor) (calls.closed_or_begun (servings.is_with_driver p.table dd) (calls.without_requests p dd) (caller who) dd)
-        (closed_kept (servings.is_with_driver p.table dd) p (calls.without_requests p dd) (caller who) dd)
+    (closed_kept (servings.is_with_driver p.table dd) p (calls.without_requests p dd) (caller who) dd)
 
 suspended_kept : (given : Bool) (p : DevParts) (t : ℕ) → IsKept p (calls.suspended given p t)
 suspended_kept false p t = answers_none p (suspension.events_sent p) (done (pos p.table.off)) p.table.off refl
@@ -154,9 +154,9 @@ suspend_kept p who mode =
     let enabled : DevDone = if mode.td_enasus then calls.counted p (off - 1) else calls.counted p off in
     let changed : DevDone = if mode.td_dissus then calls.counted p (off + 1) else enabled in
     checked p (calls.suspend_checks p who mode) (calls.suspend_effect p (caller who) mode)
-        (either p mode.td_suspend (calls.suspended (handing.any_given p.table) p (caller who)) changed (suspended_kept (handing.any_given p.table) p (caller who))
-            (either p mode.td_dissus (calls.counted p (off + 1)) enabled (counted_kept p (off + 1))
-                (either p mode.td_enasus (calls.counted p (off - 1)) (calls.counted p off) (counted_kept p (off - 1)) (counted_kept p off))))
+    (either p mode.td_suspend (calls.suspended (handing.any_given p.table) p (caller who)) changed (suspended_kept (handing.any_given p.table) p (caller who))
+    (either p mode.td_dissus (calls.counted p (off + 1)) enabled (counted_kept p (off + 1))
+    (either p mode.td_enasus (calls.counted p (off - 1)) (calls.counted p off) (counted_kept p (off - 1)) (counted_kept p off))))
 
 pub call_kept : (p : DevParts) (who : Who) (c : DeviceCall) → may_answer_for_buffer c ≡ false → IsKept p (calls.device_call p who c)
 unfolding calls.device_call

@@ -1,5 +1,5 @@
 -- Words that the laws of devices speak in.
-use Rattle.std.specs.Prelude.{Bool, true, false}
+use Rattle.std.specs.Prelude.{Bool, false}
 use Rattle.std.specs.Int.{is_negative}
 use Rattle.tk_types.specs.declared.calls.DeviceCall.{DeviceCall}
 use Rattle.tk_types.specs.declared.calls.DeviceCall.TheVariants as call
