@@ -1,7 +1,6 @@
 -- Mutexes: their table, who owns which, what a ceiling allows, and what serving does.
 use Rattle.std.specs.Prelude.{ℕ, ◌+◌, ◌-◌, ◌==◌, Bool, true, ◌&&◌, nat_le, nat_lt, if◌then◌else◌, pos, List, [], ◌∷◌, Option, Some, None, filter, is_some, option_map, replicate, slice_set, drop}
 use Rattle.std.specs.List.{last_or, list_all}
-use Rattle.std.specs.Option.{option_or}
 use Rattle.tk_types.specs.declared.task.Phase.{Phase}
 use Rattle.tk_types.specs.declared.task.Phase.TheVariants.{Waiting}
 use Rattle.tk_types.specs.declared.task.Task.{Task}
@@ -9,6 +8,7 @@ use Rattle.kernel_model.specs.Words.Checks.{plain}
 use Rattle.kernel_model.specs.Words.Orders.{entry, taken_from, to_back, without}
 use Rattle.kernel_model.specs.Tasks.Base.{Base, queue, release, task_at}
 use Rattle.object_model.specs.declared.mutexes.Mutex.{Mutex}
+use Rattle.object_model.specs.Servings.{first_serving}
 
 pub record Mutexes : Type 0 where
   pub table : List (Option Mutex)  -- by ID, 65 slots
@@ -108,14 +108,9 @@ serve_mutex_at b m id (Some k) = let served : Option MutexParts = serve_mutex_of
 unfoldable pub serve_mutex : Base → Mutexes → ℕ → Option MutexParts
 serve_mutex b m id = serve_mutex_at b m id (mutex_at m id)
 
--- the first of these IDs at which one can be served
-unfoldable pub first_served : {A : Type 0} → (ℕ → Option A) → List ℕ → Option A
-first_served serve [] = None
-first_served {A = A} serve (id ∷ ids) = let later : Option A = first_served serve ids in option_or (serve id) later
-
 -- the first mutex by ID that can serve a waiter serves one
 unfoldable pub serve_mutexes : Base → Mutexes → Option MutexParts
-serve_mutexes b m = first_served (serve_mutex b m) (taken_from 1 (drop 1 m.table))
+serve_mutexes b m = first_serving (serve_mutex b m) (taken_from 1 (drop 1 m.table))
 
 -- the start: no mutex
 abbrev pub mutexes_start : Mutexes

@@ -1,6 +1,6 @@
 -- Variable pools: where a block fits, who can be served, and what serving does.
-use Rattle.std.specs.Prelude.{ℕ, ◌+◌, ◌-◌, ◌==◌, Bool, not, nat_le, nat_lt, max, if◌then◌else◌, pos, map, sum, fold, filter, List, [], ◌∷◌, Option, Some, None, drop}
-use Rattle.std.specs.List.{list_any}
+use Rattle.std.specs.Prelude.{ℕ, ◌+◌, ◌-◌, ◌==◌, Bool, not, nat_le, nat_lt, max, if◌then◌else◌, pos, fold, filter, List, [], ◌∷◌, Option, Some, None, drop}
+use Rattle.std.specs.List.{list_any, sum_by}
 use Rattle.kernel_model.specs.Words.Orders.{taken_from}
 use Rattle.kernel_model.specs.Words.Checks.{plain}
 use Rattle.kernel_model.specs.Tasks.Base.{Base, queue, release}
@@ -47,7 +47,7 @@ begins_block offset k = list_any (λ block. block.offset == offset) k.blocks
 
 -- the bytes that live blocks take together
 abbrev pub live_bytes : List Block → ℕ
-live_bytes blocks = sum (map (λ block. block.size) blocks)
+live_bytes blocks = sum_by (λ block. block.size) blocks
 
 abbrev pub free_bytes : VariablePool → ℕ
 free_bytes k = k.size - live_bytes k.blocks
