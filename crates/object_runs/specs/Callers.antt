@@ -1,4 +1,4 @@
--- Runs that were worked out by hand from the rules, as runs/object/marks has them: each a theorem by computation.
+-- Runs that were worked out by hand from the rules, as runs/object/callers has them: each a theorem by computation.
 use Rattle.std.specs.Prelude.{ℕ, pos, negsuc, List, [], ◌∷◌, ◌++◌, Some, None, codes, ◌≡◌, refl}
 use Rattle.std.specs.Fmt.{digits}
 use Rattle.tk_types.specs.declared.script.Script.{Script}
@@ -66,6 +66,119 @@ use Rattle.machine_model.specs.Runs.Trace.{lines_of, entered as entered_2, runs,
 use Rattle.machine_model.specs.Runs.Turns.{acted, ran, turn_of, done_turn}
 use Rattle.machine_model.specs.States.Objects.{first_serving as first_serving_2, serve_object}
 use Rattle.machine_model.specs.States.State.{state_start}
+
+-- A caller that is served at once, or isn't without waiting, keeps its place before its equals, also where its call releases
+-- one of them, which stands last.
+places_kept_script : Script
+places_kept_script = record {
+  devices = [];
+  pace = None;
+  irqs = [];
+  boot = record { body = 1; priority = 10 };
+  bodies =
+      record {
+        name = codes "main";
+        kind = kinds.Task;
+        labels = [];
+        stmts =
+            stmts.Call names.TkCreMtx (args.List 0 ∷ args.Number (pos 0) ∷ []) ∷
+            stmts.Call names.TkCreMbx (args.List 0 ∷ []) ∷
+            stmts.Call names.TkCreMbf (args.List 0 ∷ args.Number (pos 12) ∷ args.Number (pos 8) ∷ []) ∷
+            stmts.Call names.TkCreMpf (args.List 0 ∷ args.Number (pos 1) ∷ args.Number (pos 1) ∷ []) ∷
+            stmts.Call names.TkCreMpl (args.List 0 ∷ args.Number (pos 8) ∷ []) ∷
+            stmts.Call names.TkCreTsk (args.List 0 ∷ args.Body 2 ∷ args.Number (pos 10) ∷ args.Number (pos 512) ∷ []) ∷
+            stmts.Call names.TkCreTsk (args.List 0 ∷ args.Body 3 ∷ args.Number (pos 10) ∷ args.Number (pos 512) ∷ []) ∷
+            stmts.Call names.TkSndMbf (args.Number (pos 1) ∷ args.Number (pos 0) ∷ args.Number (pos 8) ∷ args.Number (negsuc 0) ∷ []) ∷
+            stmts.Call names.TkSndMbx (args.Number (pos 1) ∷ args.Number (pos 1) ∷ args.Number (pos 1) ∷ []) ∷
+            stmts.Call names.TkStaTsk (args.Number (pos 2) ∷ args.Number (pos 0) ∷ []) ∷
+            stmts.Call names.TkRotRdq (args.Number (pos 10) ∷ []) ∷
+            stmts.Call names.TkStaTsk (args.Number (pos 3) ∷ args.Number (pos 0) ∷ []) ∷
+            stmts.Call names.TkLocMtx (args.Number (pos 1) ∷ args.Number (negsuc 0) ∷ []) ∷
+            stmts.Call names.TkRcvMbx (args.Number (pos 1) ∷ args.Number (negsuc 0) ∷ []) ∷
+            stmts.Call names.TkRcvMbx (args.Number (pos 1) ∷ args.Number (pos 0) ∷ []) ∷
+            stmts.Call names.TkGetMpf (args.Number (pos 1) ∷ args.Number (negsuc 0) ∷ []) ∷
+            stmts.Call names.TkGetMpf (args.Number (pos 1) ∷ args.Number (pos 0) ∷ []) ∷
+            stmts.Call names.TkGetMpl (args.Number (pos 1) ∷ args.Number (pos 8) ∷ args.Number (negsuc 0) ∷ []) ∷
+            stmts.Call names.TkGetMpl (args.Number (pos 1) ∷ args.Number (pos 8) ∷ args.Number (pos 0) ∷ []) ∷
+            stmts.Call names.TkRcvMbf (args.Number (pos 1) ∷ args.Number (pos 100) ∷ args.Number (negsuc 0) ∷ []) ∷
+            stmts.Call names.TkSndMbf (args.Number (pos 1) ∷ args.Number (pos 0) ∷ args.Number (pos 8) ∷ args.Number (pos 0) ∷ []) ∷
+            stmts.Call names.TkRcvMbf (args.Number (pos 1) ∷ args.Number (pos 100) ∷ args.Number (negsuc 0) ∷ []) ∷
+            stmts.Call names.TkSndMbf (args.Number (pos 1) ∷ args.Number (pos 0) ∷ args.Number (pos 8) ∷ args.Number (negsuc 0) ∷ []) ∷
+            stmts.Call names.TkRcvMbf (args.Number (pos 1) ∷ args.Number (pos 100) ∷ args.Number (negsuc 0) ∷ []) ∷
+            stmts.Call names.TkRcvMbf (args.Number (pos 1) ∷ args.Number (pos 100) ∷ args.Number (negsuc 0) ∷ []) ∷
+            [];
+      } ∷
+      record {
+        name = codes "tx";
+        kind = kinds.Task;
+        labels = [];
+        stmts =
+            stmts.Call names.TkSndMbf (args.Number (pos 1) ∷ args.Number (pos 0) ∷ args.Number (pos 8) ∷ args.Number (negsuc 0) ∷ []) ∷
+            stmts.Say (codes "tx") ∷
+            [];
+      } ∷
+      record {
+        name = codes "peer";
+        kind = kinds.Task;
+        labels = [];
+        stmts =
+            stmts.Call names.TkSndMbf (args.Number (pos 1) ∷ args.Number (pos 0) ∷ args.Number (pos 4) ∷ args.Number (negsuc 0) ∷ []) ∷
+            [];
+      } ∷
+      [];
+}
+
+places_kept_entries : List Entry
+places_kept_entries = []
+
+places_kept_lines : List ℕ
+places_kept_lines =
+    codes "0 D 1\n" ++
+    codes "1 C 1 tk_cre_mtx 1\n" ++
+    codes "2 C 1 tk_cre_mbx 1\n" ++
+    codes "3 C 1 tk_cre_mbf 1\n" ++
+    codes "4 C 1 tk_cre_mpf 1\n" ++
+    codes "5 C 1 tk_cre_mpl 1\n" ++
+    codes "6 C 1 tk_cre_tsk 2\n" ++
+    codes "7 C 1 tk_cre_tsk 3\n" ++
+    codes "8 C 1 tk_snd_mbf 0\n" ++
+    codes "9 C 1 tk_snd_mbx 0\n" ++
+    codes "10 C 1 tk_sta_tsk 0\n" ++
+    codes "11 C 1 tk_rot_rdq 0\n" ++
+    codes "11 D 2\n" ++
+    codes "12 B 2 tk_snd_mbf\n" ++
+    codes "12 D 1\n" ++
+    codes "13 C 1 tk_sta_tsk 0\n" ++
+    codes "14 C 1 tk_loc_mtx 0\n" ++
+    codes "15 C 1 tk_rcv_mbx 0 1 1\n" ++
+    codes "16 C 1 tk_rcv_mbx E_TMOUT\n" ++
+    codes "17 C 1 tk_get_mpf 1\n" ++
+    codes "18 C 1 tk_get_mpf E_TMOUT\n" ++
+    codes "19 C 1 tk_get_mpl 0\n" ++
+    codes "20 C 1 tk_get_mpl E_TMOUT\n" ++
+    codes "21 C 1 tk_rcv_mbf 8\n" ++
+    codes "21 W 2 tk_snd_mbf 0\n" ++
+    codes "22 C 1 tk_snd_mbf E_TMOUT\n" ++
+    codes "23 C 1 tk_rcv_mbf 8\n" ++
+    codes "24 C 1 tk_snd_mbf 0\n" ++
+    codes "25 C 1 tk_rcv_mbf 8\n" ++
+    codes "26 B 1 tk_rcv_mbf\n" ++
+    codes "26 D 3\n" ++
+    codes "27 C 3 tk_snd_mbf 0\n" ++
+    codes "27 W 1 tk_rcv_mbf 4\n" ++
+    codes "28 C 3 tk_ext_tsk 0\n" ++
+    codes "28 D 2\n" ++
+    codes "29 S 2 tx\n" ++
+    codes "30 C 2 tk_ext_tsk 0\n" ++
+    codes "30 D 1\n" ++
+    codes "31 C 1 tk_ext_tsk 0\n" ++
+    codes "31 D 0\n" ++
+    codes "31 END idle\n" ++
+    []
+
+places_kept_run : text_of_lines (lines_of (trace places_kept_script modes.Free 100000 places_kept_entries)) ≡ places_kept_lines
+unfolding places_kept_script places_kept_entries places_kept_lines text_of form_of named made task_call_name sem_flag_call_name mutex_call_name mail_call_name pool_call_name time_call_name context_call_name device_call_name hook_call_name name_of code_of error_text coded error_named attributes_of flag_mode_of open_mode_of suspend_mode_of is_name_byte name_at_most why_text value_text words_of text_of_line text_of_lines fetch give call_before create_sem create_flag end_first delete_sem delete_flag refer_sem refer_flag signal_sem set_flag clear_flag wait_sem wait_flag sem_flag_call serve_sem serve_flag first_served serve_sem_flag sem_trial flag_trial chosen free_task create_task delete_task start_task exit_task terminate_task change_priority rotate_ready get_task refer_task sleep delay wake_up cancel_wakeups release_wait suspend_task resume_task task_call mark_of allowed free_from first_serving serve_box serve_mailboxes serve_buffer serve_buffers post create_box delete_box send_box receive_box refer_box create_buffer delete_buffer send_buffer receive_buffer refer_buffer mail_call create_mutex lock_mutex unlock_mutex refer_mutex delete_mutex mutex_call change_priority_beside task_call_beside chain_has current_of resettle free_last ceiling_allows serve_mutex first_served_2 serve_mutexes create_fixed delete_fixed get_fixed release_fixed refer_fixed create_variable delete_variable get_variable release_variable refer_variable pool_call first_free serve_fixed serve_fixed_pools serve_variable serve_variable_pools set_time get_time get_operating_time create_cyclic start_cyclic stop_cyclic delete_cyclic refer_cyclic create_alarm start_alarm stop_alarm delete_alarm refer_alarm time_call body_of next_due again define_handler disable_dispatch enable_dispatch disable_interrupts enable_interrupts refer_system define_service refer_service enter_service context_call left list_existing list_ready list_queue set_hook hook_call open_device refer_device request request_whole wait_ending close_device suspend_devices device_call expected arrive hand_over hand_first messages emptied read_bytes write_bytes accept picked serve_acceptance serve_acceptances serve_ending serve_endings is_with_driver serve_close serve_closes serve_suspension events_sent free_descriptor free_request first_queued at_driver accepted dropped handed asked devices_start block is_last blocks unit cut may_cut arrived entered returned body_returned family_call answered called follow_release follow_each with_releases dispatched followed insert_once with_requests handler_begun due_begun interrupt_begun served_within settle freed_within fallen due_done tick worked counted step sync_runs sync_run entered_2 runs start trace acted ran turn_of done_turn first_serving_2 serve_object state_start digits
+places_kept_run = refl
 
 -- The six calls that may wait are refused under DI, from a handler and while dispatch is disabled, behind their first
 -- errors and before the object is looked for; an unlock is refused in a handler alone, and a handler's send ends a
