@@ -8,3 +8,5 @@ pub mod Handing
 pub mod Settling
 pub mod HandingServes
 pub mod HandedTwice
+pub mod FewDevices
+pub mod Walk
