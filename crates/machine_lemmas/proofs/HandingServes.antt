@@ -214,7 +214,7 @@ all_none_by serve other [] by all = tt
 all_none_by serve other (id ∷ ids) by all = (by id all.0, all_none_by serve other ids by all.1)
 
 -- the first of IDs serves nobody by another rule that serves nobody where this one doesn't
-first_none_by : {A B : Type 0} → (serve : ℕ → Option A) (other : ℕ → Option B) (ids now : List ℕ) → now ≡ ids → ((id : ℕ) → serve id ≡ None → other id ≡ None) → first_of_ids serve ids ≡ None → first_of_ids other now ≡ None
+pub first_none_by : {A B : Type 0} → (serve : ℕ → Option A) (other : ℕ → Option B) (ids now : List ℕ) → now ≡ ids → ((id : ℕ) → serve id ≡ None → other id ≡ None) → first_of_ids serve ids ≡ None → first_of_ids other now ≡ None
 first_none_by serve other ids now same by is = subst (λ (list : List ℕ). first_of_ids other list ≡ None) (sym same) (none_each other ids (all_none_by serve other ids by (each_none serve ids is)))
 
 abbrev with_devices_in : DevParts → Devices → DevParts
@@ -226,7 +226,7 @@ wish_none p q d t (wish.Acceptance transfer stays) is = absurd (cc is)
 wish_none p q d t (wish.Ending request serial own) is = refl
 wish_none p q d t wish.AnyEnding is = refl
 
-place_none : (p q : DevParts) (place : Bool) (d t : ℕ) → wish_of q.table t ≡ wish_of p.table t → admitted_if place p d t ≡ None → admitted_if place q d t ≡ None
+pub place_none : (p q : DevParts) (place : Bool) (d t : ℕ) → wish_of q.table t ≡ wish_of p.table t → admitted_if place p d t ≡ None → admitted_if place q d t ≡ None
 place_none p q false d t same is = refl
 place_none p q true d t same is = ap (admitted_wish q d t) same ∙ wish_none p q d t (wish_of p.table t) is
 
@@ -264,7 +264,7 @@ wish_same dv now t ready = ap (λ wishes. slice_index_or wishes t wish.Nothing) 
 wished_same : (dv now : Devices) (dd t : ℕ) → AsReady dv now → picked now dd (wish_of now t) ≡ picked dv dd (wish_of dv t)
 wished_same dv now dd t ready = ap (picked now dd) (wish_same dv now t ready) ∙ picked_same dv now dd (wish_of dv t) ready
 
-claimed_none : (p q : DevParts) (t : ℕ) (id : Option ℕ) → ending_claimed p t id ≡ None → ending_claimed q t id ≡ None
+pub claimed_none : (p q : DevParts) (t : ℕ) (id : Option ℕ) → ending_claimed p t id ≡ None → ending_claimed q t id ≡ None
 claimed_none p q t None is = refl
 claimed_none p q t (Some id) is = absurd (cc is)
 
@@ -325,7 +325,7 @@ suspension_none p is = suspension_by_none p (fifo_queue p.base suspension_object
 
 -- ---- all kinds
 
-AllKinds : List (Parts → Option Parts) → Parts → Type 0
+unfoldable pub AllKinds : List (Parts → Option Parts) → Parts → Type 0
 AllKinds [] p = Unit {0}
 AllKinds (kind ∷ later) p = (kind p ≡ None) × AllKinds later p
 
@@ -333,21 +333,21 @@ kinds_of_two : (here : Option Parts) (later : List (Parts → Option Parts)) (p 
 kinds_of_two None later p is = (refl, is)
 kinds_of_two (Some served) later p is = absurd (cc is)
 
-each_kind : (ks : List (Parts → Option Parts)) (p : Parts) → first_serving ks p ≡ None → AllKinds ks p
+pub each_kind : (ks : List (Parts → Option Parts)) (p : Parts) → first_serving ks p ≡ None → AllKinds ks p
 unfolding first_serving AllKinds
 each_kind [] p is = tt
 each_kind (kind ∷ later) p is = let both = kinds_of_two (kind p) later p is in (both.0, each_kind later p both.1)
 
-no_kind : (ks : List (Parts → Option Parts)) (p : Parts) → AllKinds ks p → first_serving ks p ≡ None
+pub no_kind : (ks : List (Parts → Option Parts)) (p : Parts) → AllKinds ks p → first_serving ks p ≡ None
 unfolding first_serving AllKinds
 no_kind [] p all = refl
 no_kind (kind ∷ later) p all = ap (λ here. elim here as (λ _. Option Parts) [ Some served ↦ Some served | None ↦ first_serving later p ]) all.0 ∙ no_kind later p all.1
 
-unmapped : {A : Type 0} → (put : A → Parts) (served : Option A) → option_map put served ≡ None → served ≡ None
+pub unmapped : {A : Type 0} → (put : A → Parts) (served : Option A) → option_map put served ≡ None → served ≡ None
 unmapped put None is = refl
 unmapped put (Some found) is = absurd (cc is)
 
-mapped_none : {A : Type 0} → (put : A → Parts) (served : Option A) → served ≡ None → option_map put served ≡ None
+pub mapped_none : {A : Type 0} → (put : A → Parts) (served : Option A) → served ≡ None → option_map put served ≡ None
 mapped_none put served is = ap (option_map put) is
 
 remapped : {A : Type 0} → (put other : A → Parts) (served : Option A) → option_map put served ≡ None → option_map other served ≡ None

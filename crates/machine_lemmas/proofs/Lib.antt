@@ -10,3 +10,4 @@ pub mod HandingServes
 pub mod HandedTwice
 pub mod FewDevices
 pub mod Walk
+pub mod Unserved
