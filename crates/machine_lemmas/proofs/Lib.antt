@@ -11,3 +11,5 @@ pub mod HandedTwice
 pub mod FewDevices
 pub mod Walk
 pub mod Unserved
+pub mod Rest
+pub mod Reached
