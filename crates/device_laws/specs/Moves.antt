@@ -1,5 +1,5 @@
 -- The moves on devices as a list, and what such a list makes of them.
-use Rattle.std.specs.Prelude.{◌≡◌, ℕ, Bool, true, false, if◌then◌else◌, List, Option, Some, None, fold}
+use Rattle.std.specs.Prelude.{◌≡◌, ℕ, ◌==◌, Bool, true, false, if◌then◌else◌, List, Option, Some, None, fold}
 use Rattle.tk_types.specs.declared.line.How.{How}
 use Rattle.device_model.specs.declared.rows.Opened.{Opened}
 use Rattle.device_model.specs.declared.rows.Wish.{Wish}
@@ -68,3 +68,13 @@ pub record Leads (dv after : Devices) : Type 0 where
 abbrev pub LeadsIfAny : Devices → Option DevParts → Type 0
 LeadsIfAny dv None = Unit {0}
 LeadsIfAny dv (Some q) = Leads dv q.table
+
+-- whether a move lets the request with an ID go
+abbrev pub lets_go : ℕ → Move → Bool
+lets_go id (Drops other) = other == id
+lets_go id _ = false
+
+-- whether a move asks a driver to abort
+abbrev pub asks : Move → Bool
+asks (Asks d) = true
+asks _ = false

@@ -24,7 +24,7 @@ use Rattle.device_model.specs.declared.rows.Wish.{Wish}
 use Rattle.device_model.specs.declared.rows.Wish.TheVariants as wish
 use Rattle.device_model.specs.Devices.Memory.{read_bytes, number_of}
 use Rattle.device_model.specs.Devices.Tables.{Given, Link, Row, Devices, device_ids, free_descriptor, free_request, is_at_driver, link_at, row_at, wish_of, with_buffer, with_open, with_wish, accepted, handed}
-use Rattle.device_model.specs.Devices.MoveProofs.{IsNew, IsMoveProof, IsArrivalProof}
+use Rattle.device_model.specs.Devices.MoveProofs.{IsNew, is_abort, IsMoveProof, IsArrivalProof}
 use Rattle.device_model.specs.Devices.Handing as handing
 use Rattle.device_model.specs.Devices.Endings as endings
 use Rattle.device_model.specs.Devices.Endings.{DevParts}
@@ -81,28 +81,28 @@ bytes_copied true n address memory is = bytes_read n address memory
 bytes_copied false n address memory is = absurd (cc is)
 
 queued_new : (d : ℕ) (transfer : Transfer) (memory : List ℕ) → IsNew (requests.row_of d transfer (requests.copied transfer memory) Queued)
-queued_new d transfer memory = record { whole = λ waits write. bytes_copied transfer.write transfer.size transfer.address memory write; apart = refl }
+queued_new d transfer memory = record { whole = λ waits write. bytes_copied transfer.write transfer.size transfer.address memory write; apart = refl; unaborted = refl }
 
-ended_new : (d : ℕ) (transfer : Transfer) (size : ℕ) (error : Er) → IsNew (requests.row_of d transfer [] (Ended size error))
-ended_new d transfer size error = record { whole = λ waits write. absurd (cc waits); apart = refl }
+ended_new : (d : ℕ) (transfer : Transfer) (size : ℕ) (error : Er) → is_abort error ≡ false → IsNew (requests.row_of d transfer [] (Ended size error))
+ended_new d transfer size error plain = record { whole = λ waits write. absurd (cc waits); apart = refl; unaborted = plain }
 
-ends_kept : (P : Devices → Type 0) → IsMoveProof P → (d id : ℕ) (transfer : Transfer) (dv : Devices) (size : ℕ) (error : Er) → P dv → P (accepted dv id (requests.row_of d transfer [] (Ended size error)))
-ends_kept P is d id transfer dv size error kept = is.accepts dv id (requests.row_of d transfer [] (Ended size error)) (ended_new d transfer size error) kept
+ends_kept : (P : Devices → Type 0) → IsMoveProof P → (d id : ℕ) (transfer : Transfer) (dv : Devices) (size : ℕ) (error : Er) → is_abort error ≡ false → P dv → P (accepted dv id (requests.row_of d transfer [] (Ended size error)))
+ends_kept P is d id transfer dv size error plain kept = is.accepts dv id (requests.row_of d transfer [] (Ended size error)) (ended_new d transfer size error plain) kept
 
 buffer_kept : (P : Devices → Type 0) → IsMoveProof P → (p : DevParts) (d id buffer : ℕ) (transfer : Transfer) → P p.table → Holds P (requests.set_buffer p d id buffer transfer)
 buffer_kept P is p d id buffer transfer before =
     either_parts P (requests.may_be_buffer p buffer) _ _
-    (record { devices = ends_kept P is d id transfer (with_buffer p.table d buffer) requests.buffer_size er.Ok (is.buffers p.table d buffer before) })
-    (record { devices = ends_kept P is d id transfer p.table 0 er.NoExs before })
+    (record { devices = ends_kept P is d id transfer (with_buffer p.table d buffer) requests.buffer_size er.Ok refl (is.buffers p.table d buffer before) })
+    (record { devices = ends_kept P is d id transfer p.table 0 er.NoExs refl before })
 
 event_kept : (P : Devices → Type 0) → IsMoveProof P → (p : DevParts) (d id : ℕ) (transfer : Transfer) → P p.table → Holds P (requests.accept_event p d id transfer)
 event_kept P is p d id transfer before =
-    either_parts P (transfer.size == 0) _ _ (record { devices = ends_kept P is d id transfer p.table requests.buffer_size er.Ok before })
+    either_parts P (transfer.size == 0) _ _ (record { devices = ends_kept P is d id transfer p.table requests.buffer_size er.Ok refl before })
     (either_parts P (transfer.size == requests.buffer_size) _ _
     (either_parts P transfer.write _ _
     (buffer_kept P is p d id (number_of (read_bytes requests.buffer_size transfer.address p.memory)) transfer before)
-    (record { devices = ends_kept P is d id transfer p.table requests.buffer_size er.Ok before }))
-    (record { devices = ends_kept P is d id transfer p.table 0 er.Par before }))
+    (record { devices = ends_kept P is d id transfer p.table requests.buffer_size er.Ok refl before }))
+    (record { devices = ends_kept P is d id transfer p.table 0 er.Par refl before }))
 
 accept_from_kept : (P : Devices → Type 0) → IsMoveProof P → (start : Option ℕ) (p : DevParts) (d id : ℕ) (transfer : Transfer) → P p.table → Holds P (requests.accept_from start p d id transfer)
 accept_from_kept P is (Some start) p d id transfer before = record { devices = is.accepts p.table id (requests.row_of d transfer (requests.copied transfer p.memory) Queued) (queued_new d transfer p.memory) before }

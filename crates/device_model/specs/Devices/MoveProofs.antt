@@ -1,18 +1,31 @@
 -- What holds of the devices after every list of moves. A word on the devices that each move keeps is kept by all that is
 -- made of them: calls, servings and requests that go to drivers. The arrival of an ending stands apart.
-use Rattle.std.specs.Prelude.{◌≡◌, ℕ, Bool, true, false, length, Option, Some, None}
+use Rattle.std.specs.Prelude.{◌≡◌, ℕ, Bool, true, false, length, Option, Some}
+use Rattle.tk_types.specs.declared.error_code.Er.{Er}
+use Rattle.tk_types.specs.declared.error_code.Er.TheVariants as er
 use Rattle.tk_types.specs.declared.line.How.{How}
 use Rattle.device_model.specs.declared.rows.Life.{Life}
-use Rattle.device_model.specs.declared.rows.Life.TheVariants.{AtDriver}
+use Rattle.device_model.specs.declared.rows.Life.TheVariants.{Ended}
 use Rattle.device_model.specs.declared.rows.Opened.{Opened}
 use Rattle.device_model.specs.declared.rows.Wish.{Wish}
 use Rattle.device_model.specs.Devices.Tables.{Given, Link, Row, Devices, is_queued, is_at_driver, link_at, row_at, with_open, with_wish, with_buffer, with_off, accepted, dropped, handed, asked}
 use Rattle.device_model.specs.Devices.Endings.{ended_at, is_allowed, served_of}
 
--- a request as it is accepted: a write that waits for its driver has as many bytes as its size, and no driver has it yet
+abbrev pub is_abort : Er → Bool
+is_abort er.Abort = true
+is_abort _ = false
+
+-- whether a request has ended aborted
+abbrev pub is_aborted : Life → Bool
+is_aborted (Ended size error) = is_abort error
+is_aborted _ = false
+
+-- a request as it is accepted: a write that waits for its driver has as many bytes as its size, no driver has it yet, and it
+-- hasn't ended aborted
 pub record IsNew (row : Row) : Type 0 where
   pub whole : is_queued row.life ≡ true → row.write ≡ true → length row.bytes ≡ row.size
   pub apart : is_at_driver row.life ≡ false
+  pub unaborted : is_aborted row.life ≡ false
 
 -- each move keeps the word
 pub record IsMoveProof (P : Devices → Type 0) : Type 0 where
