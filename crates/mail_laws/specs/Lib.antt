@@ -1,0 +1,3 @@
+pub mod Flows
+pub mod Rooms
+pub mod Turns
