@@ -1,1 +1,3 @@
 -- System time, cyclic and alarm handlers.
+pub mod Tables
+pub mod Calls

@@ -1,0 +1,4 @@
+pub mod Clocks
+pub mod Handlers
+pub mod Hooks
+pub mod Services

@@ -1,0 +1,4 @@
+pub mod Closing
+pub mod Journals
+pub mod Requests
+pub mod Suspension

@@ -1,0 +1,4 @@
+pub mod Boxes
+pub mod Buffers
+pub mod Mutexes
+pub mod Pools
