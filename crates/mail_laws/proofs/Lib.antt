@@ -5,3 +5,5 @@ pub mod Waits
 pub mod Keeps
 pub mod Room
 pub mod Turns
+pub mod Backs
+pub mod Trial

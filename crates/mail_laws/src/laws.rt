@@ -1,6 +1,6 @@
 //! Laws of the definitions, each the contract of a function that does nothing.
 
-ghost use Rattle.std.specs.Prelude.{◌≡◌, ◌≢◌, ℕ, ◌+◌, ◌<◌, ◌≤◌, Bool, false, true, if◌then◌else◌, ℤ, List, [], length, ◌∷◌, ◌++◌, ◌⊎◌, Some, filter, slice_index};
+ghost use Rattle.std.specs.Prelude.{◌≡◌, ◌≢◌, ℕ, ◌+◌, ◌<◌, ◌≤◌, Bool, false, true, if◌then◌else◌, ℤ, List, [], length, ◌∷◌, ◌++◌, ◌⊎◌, None, Some, filter, slice_index};
 ghost use Rattle.std.specs.Int.{is_negative};
 ghost use Rattle.std.specs.Ordering.{int_eq};
 ghost use Rattle.tk_types.specs.declared.answer.Answer.{Answer};
@@ -8,14 +8,16 @@ ghost use Rattle.tk_types.specs.declared.answer.Outcome.TheVariants.{Returned};
 ghost use Rattle.tk_types.specs.declared.answer.Who.{Who};
 ghost use Rattle.tk_types.specs.declared.calls.MailCall.{MailCall};
 ghost use Rattle.kernel_model.specs.LawWords.Waiters.{waiting_count};
+ghost use Rattle.kernel_model.specs.SemFlags.Trial.{MayWait};
 ghost use Rattle.object_model.specs.declared.mails.Message.{Message};
-ghost use Rattle.object_model.specs.Mails.Tables.{Mailbox, MailParts, buffer_at, mails_start};
+ghost use Rattle.object_model.specs.Mails.Tables.{Mailbox, MailParts, box_at, buffer_at, mails_start};
 ghost use Rattle.object_model.specs.Mails.Bytes.{bytes_at, with_bytes};
-ghost use Rattle.object_model.specs.Mails.Boxes.{by_priority, put_in, serve_mailboxes};
+ghost use Rattle.object_model.specs.Mails.Boxes.{by_priority, put_in, serve_box, serve_mailboxes};
 ghost use Rattle.object_model.specs.Mails.Buffers.{post, serve_buffers};
-ghost use Rattle.object_model.specs.Mails.Calls.{mail_call, mail_done, received_from_buffer};
+ghost use Rattle.object_model.specs.Mails.Calls.{mail_call, mail_done, received_from_box, received_from_buffer};
 ghost use Rattle.mail_laws.specs.Flows.{IsFlow, Receive, Step, TellsLength, after, after_all, flow_of, flow_of_all, messages_at, place_of_step, written};
 ghost use Rattle.mail_laws.specs.Rooms.{HaveRoom};
+ghost use Rattle.mail_laws.specs.Trial.{box_trial};
 ghost use Rattle.mail_laws.specs.Turns.{AreInTurn, StandByPriority};
 
 /// A call on mailboxes and message buffers that is refused changes nothing: where it answers a negative value, which is an
@@ -87,4 +89,12 @@ pub fn a_serving_ends_a_wait()
     ensures mailbox { (p q : MailParts) → serve_mailboxes p ≡ Some q → waiting_count p.base ≡ waiting_count q.base + 1 }
     ensures buffer { (p q : MailParts) → serve_buffers p ≡ Some q →
         (waiting_count p.base ≡ waiting_count q.base + 1) ⊎ (waiting_count p.base ≡ waiting_count q.base + 2) }
+{}
+
+/// A call that waits for a message in a mailbox is its trial: what the box decides for its caller is what comes of it when the
+/// caller joins the waiters and the box serves one, if it can. The caller is ready, and before the call the box could serve
+/// nobody.
+pub fn a_call_for_a_mailbox_is_its_trial()
+    ensures { (p : MailParts) (t id : ℕ) (timeout : ℤ) (k : Mailbox) → MayWait p.base t → box_at p.table id ≡ Some k →
+        serve_box p id ≡ None → received_from_box p t id timeout (Some k) ≡ box_trial p t id timeout k }
 {}

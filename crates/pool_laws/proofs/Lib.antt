@@ -4,3 +4,4 @@ pub mod Freeing
 pub mod Blocks
 pub mod Waits
 pub mod Refusals
+pub mod Trial

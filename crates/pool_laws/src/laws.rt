@@ -1,6 +1,6 @@
 //! Laws of the definitions, each the contract of a function that does nothing.
 
-ghost use Rattle.std.specs.Prelude.{◌≡◌, ℕ, suc, ◌+◌, ◌<◌, ◌≤◌, Bool, false, true, List, length, ◌∷◌, ◌++◌, None, Some, filter, not, slice_set, sum};
+ghost use Rattle.std.specs.Prelude.{◌≡◌, ℕ, suc, ◌+◌, ◌<◌, ◌≤◌, Bool, false, true, ℤ, List, length, ◌∷◌, ◌++◌, None, Some, filter, not, slice_set, sum};
 ghost use Rattle.std.specs.Bool.{◌==◌};
 ghost use Rattle.std.specs.Option.{is_some};
 ghost use Rattle.std.specs.Int.{is_negative};
@@ -9,12 +9,14 @@ ghost use Rattle.tk_types.specs.declared.answer.Outcome.TheVariants.{Returned};
 ghost use Rattle.tk_types.specs.declared.answer.Who.{Who};
 ghost use Rattle.tk_types.specs.declared.calls.PoolCall.{PoolCall};
 ghost use Rattle.kernel_model.specs.LawWords.Waiters.{waiting_count};
+ghost use Rattle.kernel_model.specs.SemFlags.Trial.{MayWait};
 ghost use Rattle.object_model.specs.declared.pools.Block.{Block};
-ghost use Rattle.object_model.specs.Pools.Tables.{FixedPool, PoolParts, VariablePool};
-ghost use Rattle.object_model.specs.Pools.Fixed.{free_block, free_blocks, is_out, serve_fixed_pools};
-ghost use Rattle.object_model.specs.Pools.Variable.{free_bytes, gaps_from, insert_block, largest_gap, live_bytes, place_in, serve_variable_pools};
-ghost use Rattle.object_model.specs.Pools.Calls.{pool_call, pool_done};
+ghost use Rattle.object_model.specs.Pools.Tables.{FixedPool, PoolParts, VariablePool, fixed_at, variable_at};
+ghost use Rattle.object_model.specs.Pools.Fixed.{free_block, free_blocks, is_out, serve_fixed, serve_fixed_pools};
+ghost use Rattle.object_model.specs.Pools.Variable.{free_bytes, gaps_from, insert_block, largest_gap, live_bytes, place_in, serve_variable, serve_variable_pools};
+ghost use Rattle.object_model.specs.Pools.Calls.{got_from_fixed, got_from_variable, pool_call, pool_done};
 ghost use Rattle.pool_laws.specs.Blocks.{Fit, LieApart};
+ghost use Rattle.pool_laws.specs.Trial.{fixed_trial, variable_trial};
 
 /// A call on pools that is refused changes nothing: where it answers a negative value, which is an error, base and table
 /// are as they were.
@@ -80,4 +82,14 @@ pub fn the_least_free_block_is_taken()
 pub fn a_serving_ends_one_wait()
     ensures fixed { (p q : PoolParts) → serve_fixed_pools p ≡ Some q → waiting_count p.base ≡ waiting_count q.base + 1 }
     ensures variable { (p q : PoolParts) → serve_variable_pools p ≡ Some q → waiting_count p.base ≡ waiting_count q.base + 1 }
+{}
+
+/// A call that waits for a pool is its trial: what the pool decides for its caller is what comes of it when the caller joins the
+/// waiters and the pool serves one, if it can. The caller is ready and has a place in the table of what tasks ask for, and
+/// before the call the pool could serve nobody.
+pub fn a_call_for_a_pool_is_its_trial()
+    ensures fixed { (p : PoolParts) (t id : ℕ) (timeout : ℤ) (k : FixedPool) → MayWait p.base t → fixed_at p.table id ≡ Some k →
+        serve_fixed p id ≡ None → got_from_fixed p t id timeout (Some k) ≡ fixed_trial p t id timeout k }
+    ensures variable { (p : PoolParts) (t id n : ℕ) (timeout : ℤ) (k : VariablePool) → MayWait p.base t → variable_at p.table id ≡ Some k →
+        t < length p.table.sizes → serve_variable p id ≡ None → got_from_variable p t id n timeout (Some k) ≡ variable_trial p t id n timeout k }
 {}
