@@ -61,7 +61,7 @@ still_waits b t u one other result here there apart =
 
 -- ---- the first object that serves
 
-or_cases : {A : Type 0} → (o later : Option A) (x : A) → option_or o later ≡ Some x → (o ≡ Some x) ⊎ (later ≡ Some x)
+pub or_cases : {A : Type 0} → (o later : Option A) (x : A) → option_or o later ≡ Some x → (o ≡ Some x) ⊎ (later ≡ Some x)
 or_cases None later x is = inr is
 or_cases (Some y) later x is = inl is
 

@@ -5,3 +5,5 @@ pub mod Blocks
 pub mod Waits
 pub mod Refusals
 pub mod Trial
+pub mod Apart
+pub mod Wishes
