@@ -1,4 +1,5 @@
 pub mod Clocks
+pub mod Dispatching
 pub mod Handlers
 pub mod Hooks
 pub mod Services
