@@ -1,3 +1,4 @@
+pub mod ClockCalls
 pub mod Clocks
 pub mod Dispatching
 pub mod Handlers
