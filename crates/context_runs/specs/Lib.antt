@@ -3,4 +3,5 @@ pub mod Clocks
 pub mod Dispatching
 pub mod Handlers
 pub mod Hooks
+pub mod Lists
 pub mod Services
