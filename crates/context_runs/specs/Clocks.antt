@@ -67,8 +67,8 @@ use Rattle.machine_model.specs.Runs.Turns.{acted, ran, turn_of, done_turn}
 use Rattle.machine_model.specs.States.Objects.{first_serving as first_serving_2, serve_object}
 use Rattle.machine_model.specs.States.State.{state_start}
 
--- Setting an alarm again takes the place of the time before; a far time is shown as a negative number. An alarm with time 0 is due
--- in the next tick, also one that its own handler sets, and is no longer set while its handler runs. Stopping takes it off.
+-- Setting an alarm again takes the place of the time before; a far time is shown as a negative number. An alarm is no longer set while
+-- its handler runs, which may set it; with time 0 it is due in the next tick, and its handler starts with registers anew.
 alarms_set_again_script : Script
 alarms_set_again_script = record {
   devices = [];
@@ -100,6 +100,7 @@ alarms_set_again_script = record {
         kind = kinds.Hand;
         labels = [];
         stmts =
+            stmts.Show (operands.Register 5) ∷
             stmts.Compute operations.Set 5 (operands.Register 1) ∷
             stmts.Call names.TkRefAlm (args.Register 5 ∷ []) ∷
             stmts.Call names.TkStaAlm (args.Register 5 ∷ args.Number (pos 0) ∷ []) ∷
@@ -127,22 +128,24 @@ alarms_set_again_lines =
     codes "9 D 0\n" ++
     codes "10 K 1\n" ++
     codes "11 I alm 1\n" ++
-    codes "13 C 0 tk_ref_alm 0 0 0\n" ++
-    codes "14 C 0 tk_sta_alm 0\n" ++
-    codes "15 C 0 tk_ref_alm 0 1 1\n" ++
-    codes "17 K 2\n" ++
-    codes "17 W 1 tk_dly_tsk 0\n" ++
-    codes "18 I alm 1\n" ++
-    codes "20 C 0 tk_ref_alm 0 0 0\n" ++
-    codes "21 C 0 tk_sta_alm 0\n" ++
-    codes "22 C 0 tk_ref_alm 0 1 1\n" ++
-    codes "23 D 1\n" ++
-    codes "24 C 1 tk_stp_alm 0\n" ++
-    codes "25 C 1 tk_ref_alm 0 0 0\n" ++
+    codes "12 S 0 0\n" ++
+    codes "14 C 0 tk_ref_alm 0 0 0\n" ++
+    codes "15 C 0 tk_sta_alm 0\n" ++
+    codes "16 C 0 tk_ref_alm 0 1 1\n" ++
+    codes "18 K 2\n" ++
+    codes "18 W 1 tk_dly_tsk 0\n" ++
+    codes "19 I alm 1\n" ++
+    codes "20 S 0 0\n" ++
+    codes "22 C 0 tk_ref_alm 0 0 0\n" ++
+    codes "23 C 0 tk_sta_alm 0\n" ++
+    codes "24 C 0 tk_ref_alm 0 1 1\n" ++
+    codes "25 D 1\n" ++
     codes "26 C 1 tk_stp_alm 0\n" ++
-    codes "27 C 1 tk_ext_tsk 0\n" ++
-    codes "27 D 0\n" ++
-    codes "27 END idle\n" ++
+    codes "27 C 1 tk_ref_alm 0 0 0\n" ++
+    codes "28 C 1 tk_stp_alm 0\n" ++
+    codes "29 C 1 tk_ext_tsk 0\n" ++
+    codes "29 D 0\n" ++
+    codes "29 END idle\n" ++
     []
 
 alarms_set_again_run : text_of_lines (lines_of (trace alarms_set_again_script modes.Free 100000 alarms_set_again_entries)) ≡ alarms_set_again_lines
@@ -491,8 +494,8 @@ phases_run : text_of_lines (lines_of (trace phases_script modes.Free 100000 phas
 unfolding phases_script phases_entries phases_lines text_of form_of named made task_call_name sem_flag_call_name mutex_call_name mail_call_name pool_call_name time_call_name context_call_name device_call_name hook_call_name name_of code_of error_text coded error_named attributes_of flag_mode_of open_mode_of suspend_mode_of is_name_byte name_at_most why_text value_text words_of text_of_line text_of_lines fetch give call_before create_sem create_flag end_first delete_sem delete_flag refer_sem refer_flag signal_sem set_flag clear_flag wait_sem wait_flag sem_flag_call serve_sem serve_flag first_served serve_sem_flag sem_trial flag_trial chosen free_task create_task delete_task start_task exit_task terminate_task change_priority rotate_ready get_task refer_task sleep delay wake_up cancel_wakeups release_wait suspend_task resume_task task_call mark_of allowed free_from first_serving serve_box serve_mailboxes serve_buffer serve_buffers post create_box delete_box send_box receive_box refer_box create_buffer delete_buffer send_buffer receive_buffer refer_buffer mail_call create_mutex lock_mutex unlock_mutex refer_mutex delete_mutex mutex_call change_priority_beside task_call_beside chain_has current_of resettle free_last ceiling_allows serve_mutex serve_mutexes create_fixed delete_fixed get_fixed release_fixed refer_fixed create_variable delete_variable get_variable release_variable refer_variable pool_call first_free serve_fixed serve_fixed_pools serve_variable serve_variable_pools set_time get_time get_operating_time create_cyclic start_cyclic stop_cyclic delete_cyclic refer_cyclic create_alarm start_alarm stop_alarm delete_alarm refer_alarm time_call body_of next_due again define_handler disable_dispatch enable_dispatch disable_interrupts enable_interrupts refer_system define_service refer_service enter_service context_call left list_existing list_ready list_queue set_hook hook_call open_device refer_device request request_whole wait_ending close_device suspend_devices device_call expected arrive hand_over hand_first messages emptied read_bytes write_bytes accept picked serve_acceptance serve_acceptances serve_ending serve_endings is_with_driver serve_close serve_closes serve_suspension events_sent free_descriptor free_request first_queued at_driver accepted dropped handed asked devices_start block is_last blocks unit cut may_cut arrived entered returned body_returned family_call answered called follow_release follow_each with_releases dispatched followed insert_once with_requests handler_begun due_begun interrupt_begun served_within settle freed_within fallen due_done tick worked counted step sync_runs sync_run entered_2 runs start trace acted ran turn_of done_turn first_serving_2 serve_object state_start digits
 phases_run = refl
 
--- A handler that is due starts though it is stopped, and doesn't though it was due where it is deleted; its next time goes in both
--- cases. An alarm that sets itself again starts in the next tick. A handler that deletes itself runs on to its end.
+-- A handler that is due starts though it is stopped, and doesn't where it is deleted; its next time goes in both cases. An alarm that
+-- sets itself again starts in the next tick, and a handler that deletes itself runs on to its end.
 stopped_while_due_script : Script
 stopped_while_due_script = record {
   devices = [];
@@ -522,6 +525,7 @@ stopped_while_due_script = record {
         kind = kinds.Hand;
         labels = [];
         stmts =
+            stmts.Call names.TkRefCyc (args.Number (pos 1) ∷ []) ∷
             stmts.Call names.TkStpCyc (args.Number (pos 1) ∷ []) ∷
             stmts.Call names.TkRefCyc (args.Number (pos 1) ∷ []) ∷
             stmts.Call names.TkDelCyc (args.Number (pos 2) ∷ []) ∷
@@ -568,31 +572,33 @@ stopped_while_due_lines =
     codes "9 D 0\n" ++
     codes "10 K 1\n" ++
     codes "11 I alm 1\n" ++
-    codes "12 C 0 tk_stp_cyc 0\n" ++
-    codes "13 C 0 tk_ref_cyc 0 0 0\n" ++
-    codes "14 C 0 tk_del_cyc 0\n" ++
-    codes "15 C 0 tk_stp_alm 0\n" ++
-    codes "16 C 0 tk_del_alm 0\n" ++
-    codes "17 C 0 tk_sta_alm 0\n" ++
-    codes "19 I cyc 1\n" ++
-    codes "20 S 0 1\n" ++
-    codes "22 I alm 2\n" ++
-    codes "23 C 0 tk_del_alm 0\n" ++
-    codes "24 S 0 on\n" ++
-    codes "26 K 2\n" ++
-    codes "26 W 1 tk_dly_tsk 0\n" ++
-    codes "27 I alm 1\n" ++
-    codes "28 C 0 tk_stp_cyc 0\n" ++
+    codes "12 C 0 tk_ref_cyc 0 5 1\n" ++
+    codes "13 C 0 tk_stp_cyc 0\n" ++
+    codes "14 C 0 tk_ref_cyc 0 0 0\n" ++
+    codes "15 C 0 tk_del_cyc 0\n" ++
+    codes "16 C 0 tk_stp_alm 0\n" ++
+    codes "17 C 0 tk_del_alm 0\n" ++
+    codes "18 C 0 tk_sta_alm 0\n" ++
+    codes "20 I cyc 1\n" ++
+    codes "21 S 0 1\n" ++
+    codes "23 I alm 2\n" ++
+    codes "24 C 0 tk_del_alm 0\n" ++
+    codes "25 S 0 on\n" ++
+    codes "27 K 2\n" ++
+    codes "27 W 1 tk_dly_tsk 0\n" ++
+    codes "28 I alm 1\n" ++
     codes "29 C 0 tk_ref_cyc 0 0 0\n" ++
-    codes "30 C 0 tk_del_cyc E_NOEXS\n" ++
-    codes "31 C 0 tk_stp_alm E_NOEXS\n" ++
-    codes "32 C 0 tk_del_alm E_NOEXS\n" ++
-    codes "33 C 0 tk_sta_alm 0\n" ++
-    codes "34 D 1\n" ++
-    codes "35 C 1 tk_del_alm 0\n" ++
-    codes "36 C 1 tk_ext_tsk 0\n" ++
-    codes "36 D 0\n" ++
-    codes "36 END idle\n" ++
+    codes "30 C 0 tk_stp_cyc 0\n" ++
+    codes "31 C 0 tk_ref_cyc 0 0 0\n" ++
+    codes "32 C 0 tk_del_cyc E_NOEXS\n" ++
+    codes "33 C 0 tk_stp_alm E_NOEXS\n" ++
+    codes "34 C 0 tk_del_alm E_NOEXS\n" ++
+    codes "35 C 0 tk_sta_alm 0\n" ++
+    codes "36 D 1\n" ++
+    codes "37 C 1 tk_del_alm 0\n" ++
+    codes "38 C 1 tk_ext_tsk 0\n" ++
+    codes "38 D 0\n" ++
+    codes "38 END idle\n" ++
     []
 
 stopped_while_due_run : text_of_lines (lines_of (trace stopped_while_due_script modes.Free 100000 stopped_while_due_entries)) ≡ stopped_while_due_lines

@@ -67,13 +67,13 @@ use Rattle.machine_model.specs.Runs.Turns.{acted, ran, turn_of, done_turn}
 use Rattle.machine_model.specs.States.Objects.{first_serving as first_serving_2, serve_object}
 use Rattle.machine_model.specs.States.State.{state_start}
 
--- Ticks that fall while interrupts are disabled are counted, none is lost. A task that ends with dispatching and interrupts disabled
--- enables both: the next task is dispatched, then all ticks are taken, then the interrupt starts.
+-- Ticks that fall while interrupts are disabled are counted, none is lost. A task that ends, or is deleted as it ends, enables
+-- dispatching and interrupts: the next task is dispatched, then all ticks are taken, then the interrupt starts.
 exit_with_both_set_script : Script
 exit_with_both_set_script = record {
   devices = [];
   pace = Some 3;
-  irqs = record { step = 7; number = 5 } ∷ [];
+  irqs = record { step = 9; number = 5 } ∷ [];
   boot = record { body = 1; priority = 10 };
   bodies =
       record {
@@ -81,14 +81,16 @@ exit_with_both_set_script = record {
         kind = kinds.Task;
         labels = [];
         stmts =
-            stmts.Call names.TkDefInt (args.Number (pos 5) ∷ args.Body 3 ∷ []) ∷
+            stmts.Call names.TkDefInt (args.Number (pos 5) ∷ args.Body 4 ∷ []) ∷
             stmts.Call names.TkCreTsk (args.List 0 ∷ args.Body 2 ∷ args.Number (pos 5) ∷ args.Number (pos 512) ∷ []) ∷
+            stmts.Call names.TkCreTsk (args.List 0 ∷ args.Body 3 ∷ args.Number (pos 20) ∷ args.Number (pos 512) ∷ []) ∷
+            stmts.Call names.TkStaTsk (args.Number (pos 3) ∷ args.Number (pos 0) ∷ []) ∷
             stmts.Call names.TkDisDsp ([]) ∷
             stmts.Call names.Di ([]) ∷
             stmts.Call names.TkStaTsk (args.Number (pos 2) ∷ args.Number (pos 0) ∷ []) ∷
+            stmts.Call names.TkRefSys ([]) ∷
             stmts.Say (codes "a") ∷
             stmts.Say (codes "b") ∷
-            stmts.Call names.TkRefSys ([]) ∷
             stmts.Call names.TkExtTsk ([]) ∷
             [];
       } ∷
@@ -99,6 +101,18 @@ exit_with_both_set_script = record {
         stmts =
             stmts.Say (codes "h") ∷
             stmts.Call names.TkRefSys ([]) ∷
+            stmts.Call names.TkDisDsp ([]) ∷
+            stmts.Call names.Di ([]) ∷
+            stmts.Call names.TkExdTsk ([]) ∷
+            [];
+      } ∷
+      record {
+        name = codes "last";
+        kind = kinds.Task;
+        labels = [];
+        stmts =
+            stmts.Call names.TkRefSys ([]) ∷
+            stmts.Call names.TdLstTsk (args.Number (pos 0) ∷ args.Number (pos 0) ∷ []) ∷
             [];
       } ∷
       record {
@@ -121,46 +135,58 @@ exit_with_both_set_lines =
     codes "1 C 1 tk_def_int 0\n" ++
     codes "2 C 1 tk_cre_tsk 2\n" ++
     codes "3 K 1\n" ++
-    codes "4 C 1 tk_dis_dsp 0\n" ++
-    codes "5 C 1 DI 0\n" ++
-    codes "6 C 1 tk_sta_tsk 0\n" ++
-    codes "7 S 1 a\n" ++
-    codes "8 S 1 b\n" ++
-    codes "9 C 1 tk_ref_sys 0 2 1 2\n" ++
-    codes "10 C 1 tk_ext_tsk 0\n" ++
-    codes "10 D 2\n" ++
-    codes "11 K 2\n" ++
-    codes "12 K 3\n" ++
-    codes "13 K 4\n" ++
-    codes "14 I int 5\n" ++
-    codes "15 C 0 tk_ref_sys 0 3 2 2\n" ++
-    codes "17 K 5\n" ++
-    codes "18 K 6\n" ++
-    codes "19 S 2 h\n" ++
-    codes "20 C 2 tk_ref_sys 0 0 2 2\n" ++
+    codes "4 C 1 tk_cre_tsk 3\n" ++
+    codes "5 C 1 tk_sta_tsk 0\n" ++
+    codes "6 K 2\n" ++
+    codes "7 C 1 tk_dis_dsp 0\n" ++
+    codes "8 C 1 DI 0\n" ++
+    codes "9 C 1 tk_sta_tsk 0\n" ++
+    codes "10 C 1 tk_ref_sys 0 2 1 2\n" ++
+    codes "11 S 1 a\n" ++
+    codes "12 S 1 b\n" ++
+    codes "13 C 1 tk_ext_tsk 0\n" ++
+    codes "13 D 2\n" ++
+    codes "14 K 3\n" ++
+    codes "15 K 4\n" ++
+    codes "16 K 5\n" ++
+    codes "17 I int 5\n" ++
+    codes "18 C 0 tk_ref_sys 0 3 2 2\n" ++
+    codes "20 K 6\n" ++
     codes "21 K 7\n" ++
-    codes "22 C 2 tk_ext_tsk 0\n" ++
-    codes "22 D 0\n" ++
-    codes "22 END idle\n" ++
+    codes "22 S 2 h\n" ++
+    codes "23 C 2 tk_ref_sys 0 0 2 2\n" ++
+    codes "24 K 8\n" ++
+    codes "25 C 2 tk_dis_dsp 0\n" ++
+    codes "26 C 2 DI 0\n" ++
+    codes "27 C 2 tk_exd_tsk 0\n" ++
+    codes "27 D 3\n" ++
+    codes "28 K 9\n" ++
+    codes "29 C 3 tk_ref_sys 0 0 3 3\n" ++
+    codes "30 K 10\n" ++
+    codes "31 C 3 td_lst_tsk 2\n" ++
+    codes "32 C 3 tk_ext_tsk 0\n" ++
+    codes "32 D 0\n" ++
+    codes "32 END idle\n" ++
     []
 
 exit_with_both_set_run : text_of_lines (lines_of (trace exit_with_both_set_script modes.Free 100000 exit_with_both_set_entries)) ≡ exit_with_both_set_lines
 unfolding exit_with_both_set_script exit_with_both_set_entries exit_with_both_set_lines text_of form_of named made task_call_name sem_flag_call_name mutex_call_name mail_call_name pool_call_name time_call_name context_call_name device_call_name hook_call_name name_of code_of error_text coded error_named attributes_of flag_mode_of open_mode_of suspend_mode_of is_name_byte name_at_most why_text value_text words_of text_of_line text_of_lines fetch give call_before create_sem create_flag end_first delete_sem delete_flag refer_sem refer_flag signal_sem set_flag clear_flag wait_sem wait_flag sem_flag_call serve_sem serve_flag first_served serve_sem_flag sem_trial flag_trial chosen free_task create_task delete_task start_task exit_task terminate_task change_priority rotate_ready get_task refer_task sleep delay wake_up cancel_wakeups release_wait suspend_task resume_task task_call mark_of allowed free_from first_serving serve_box serve_mailboxes serve_buffer serve_buffers post create_box delete_box send_box receive_box refer_box create_buffer delete_buffer send_buffer receive_buffer refer_buffer mail_call create_mutex lock_mutex unlock_mutex refer_mutex delete_mutex mutex_call change_priority_beside task_call_beside chain_has current_of resettle free_last ceiling_allows serve_mutex serve_mutexes create_fixed delete_fixed get_fixed release_fixed refer_fixed create_variable delete_variable get_variable release_variable refer_variable pool_call first_free serve_fixed serve_fixed_pools serve_variable serve_variable_pools set_time get_time get_operating_time create_cyclic start_cyclic stop_cyclic delete_cyclic refer_cyclic create_alarm start_alarm stop_alarm delete_alarm refer_alarm time_call body_of next_due again define_handler disable_dispatch enable_dispatch disable_interrupts enable_interrupts refer_system define_service refer_service enter_service context_call left list_existing list_ready list_queue set_hook hook_call open_device refer_device request request_whole wait_ending close_device suspend_devices device_call expected arrive hand_over hand_first messages emptied read_bytes write_bytes accept picked serve_acceptance serve_acceptances serve_ending serve_endings is_with_driver serve_close serve_closes serve_suspension events_sent free_descriptor free_request first_queued at_driver accepted dropped handed asked devices_start block is_last blocks unit cut may_cut arrived entered returned body_returned family_call answered called follow_release follow_each with_releases dispatched followed insert_once with_requests handler_begun due_begun interrupt_begun served_within settle freed_within fallen due_done tick worked counted step sync_runs sync_run entered_2 runs start trace acted ran turn_of done_turn first_serving_2 serve_object state_start digits
 exit_with_both_set_run = refl
 
--- A handler runs while dispatching is disabled: it can't suspend the current task, which can't suspend itself either, and what it
--- makes ready isn't dispatched at its end. Where it terminates the current task, dispatching is enabled.
+-- While dispatching is disabled, a handler can't suspend the current task, which can't suspend itself either, and what it makes ready
+-- isn't dispatched at its end. Where a handler terminates the current task, dispatching is enabled; the end of another task doesn't do
+-- that.
 handler_and_disabled_script : Script
 handler_and_disabled_script = record {
   devices = [];
   pace = None;
-  irqs = record { step = 7; number = 1 } ∷ record { step = 15; number = 2 } ∷ [];
+  irqs = record { step = 10; number = 1 } ∷ record { step = 18; number = 2 } ∷ [];
   boot = record { body = 1; priority = 10 };
   bodies =
       record {
         name = codes "main";
         kind = kinds.Task;
-        labels = record { name = codes "again"; place = 7 } ∷ [];
+        labels = record { name = codes "again"; place = 10 } ∷ [];
         stmts =
             stmts.Jump (conditions.Equal 1 (operands.Number (pos 7))) 0 ∷
             stmts.Call names.TkDefInt (args.Number (pos 1) ∷ args.Body 3 ∷ []) ∷
@@ -168,6 +194,9 @@ handler_and_disabled_script = record {
             stmts.Call names.TkCreTsk (args.List 0 ∷ args.Body 2 ∷ args.Number (pos 5) ∷ args.Number (pos 512) ∷ []) ∷
             stmts.Call names.TkDisDsp ([]) ∷
             stmts.Call names.TkSusTsk (args.Number (pos 1) ∷ []) ∷
+            stmts.Call names.TkStaTsk (args.Number (pos 2) ∷ args.Number (pos 0) ∷ []) ∷
+            stmts.Call names.TkTerTsk (args.Number (pos 2) ∷ []) ∷
+            stmts.Call names.TkRefSys ([]) ∷
             stmts.Call names.TkRefSys ([]) ∷
             stmts.Call names.TkRefSys ([]) ∷
             stmts.Call names.TkSlpTsk (args.Number (pos 0) ∷ []) ∷
@@ -217,26 +246,29 @@ handler_and_disabled_lines =
     codes "4 C 1 tk_cre_tsk 2\n" ++
     codes "5 C 1 tk_dis_dsp 0\n" ++
     codes "6 C 1 tk_sus_tsk E_OBJ\n" ++
-    codes "7 I int 1\n" ++
-    codes "8 C 0 tk_sus_tsk E_CTX\n" ++
-    codes "9 C 0 tk_sta_tsk 0\n" ++
-    codes "10 C 0 tk_sus_tsk 0\n" ++
-    codes "11 C 0 tk_rsm_tsk 0\n" ++
-    codes "12 C 0 tk_ref_sys 0 3 1 2\n" ++
-    codes "14 C 1 tk_ref_sys 0 1 1 2\n" ++
-    codes "15 I int 2\n" ++
-    codes "16 C 0 tk_ter_tsk 0\n" ++
-    codes "17 C 0 tk_ref_sys 0 3 0 2\n" ++
-    codes "18 C 0 tk_sta_tsk 0\n" ++
-    codes "19 D 2\n" ++
-    codes "20 C 2 tk_ref_sys 0 0 2 2\n" ++
-    codes "21 C 2 tk_ext_tsk 0\n" ++
-    codes "21 D 1\n" ++
-    codes "23 C 1 tk_ref_sys 0 0 1 1\n" ++
-    codes "24 C 1 tk_slp_tsk E_TMOUT\n" ++
-    codes "25 C 1 tk_ext_tsk 0\n" ++
-    codes "25 D 0\n" ++
-    codes "25 END idle\n" ++
+    codes "7 C 1 tk_sta_tsk 0\n" ++
+    codes "8 C 1 tk_ter_tsk 0\n" ++
+    codes "9 C 1 tk_ref_sys 0 1 1 1\n" ++
+    codes "10 I int 1\n" ++
+    codes "11 C 0 tk_sus_tsk E_CTX\n" ++
+    codes "12 C 0 tk_sta_tsk 0\n" ++
+    codes "13 C 0 tk_sus_tsk 0\n" ++
+    codes "14 C 0 tk_rsm_tsk 0\n" ++
+    codes "15 C 0 tk_ref_sys 0 3 1 2\n" ++
+    codes "17 C 1 tk_ref_sys 0 1 1 2\n" ++
+    codes "18 I int 2\n" ++
+    codes "19 C 0 tk_ter_tsk 0\n" ++
+    codes "20 C 0 tk_ref_sys 0 3 0 2\n" ++
+    codes "21 C 0 tk_sta_tsk 0\n" ++
+    codes "22 D 2\n" ++
+    codes "23 C 2 tk_ref_sys 0 0 2 2\n" ++
+    codes "24 C 2 tk_ext_tsk 0\n" ++
+    codes "24 D 1\n" ++
+    codes "26 C 1 tk_ref_sys 0 0 1 1\n" ++
+    codes "27 C 1 tk_slp_tsk E_TMOUT\n" ++
+    codes "28 C 1 tk_ext_tsk 0\n" ++
+    codes "28 D 0\n" ++
+    codes "28 END idle\n" ++
     []
 
 handler_and_disabled_run : text_of_lines (lines_of (trace handler_and_disabled_script modes.Free 100000 handler_and_disabled_entries)) ≡ handler_and_disabled_lines
@@ -279,6 +311,64 @@ pace_of_one_lines =
 pace_of_one_run : text_of_lines (lines_of (trace pace_of_one_script modes.Free 5 pace_of_one_entries)) ≡ pace_of_one_lines
 unfolding pace_of_one_script pace_of_one_entries pace_of_one_lines text_of form_of named made task_call_name sem_flag_call_name mutex_call_name mail_call_name pool_call_name time_call_name context_call_name device_call_name hook_call_name name_of code_of error_text coded error_named attributes_of flag_mode_of open_mode_of suspend_mode_of is_name_byte name_at_most why_text value_text words_of text_of_line text_of_lines fetch give call_before create_sem create_flag end_first delete_sem delete_flag refer_sem refer_flag signal_sem set_flag clear_flag wait_sem wait_flag sem_flag_call serve_sem serve_flag first_served serve_sem_flag sem_trial flag_trial chosen free_task create_task delete_task start_task exit_task terminate_task change_priority rotate_ready get_task refer_task sleep delay wake_up cancel_wakeups release_wait suspend_task resume_task task_call mark_of allowed free_from first_serving serve_box serve_mailboxes serve_buffer serve_buffers post create_box delete_box send_box receive_box refer_box create_buffer delete_buffer send_buffer receive_buffer refer_buffer mail_call create_mutex lock_mutex unlock_mutex refer_mutex delete_mutex mutex_call change_priority_beside task_call_beside chain_has current_of resettle free_last ceiling_allows serve_mutex serve_mutexes create_fixed delete_fixed get_fixed release_fixed refer_fixed create_variable delete_variable get_variable release_variable refer_variable pool_call first_free serve_fixed serve_fixed_pools serve_variable serve_variable_pools set_time get_time get_operating_time create_cyclic start_cyclic stop_cyclic delete_cyclic refer_cyclic create_alarm start_alarm stop_alarm delete_alarm refer_alarm time_call body_of next_due again define_handler disable_dispatch enable_dispatch disable_interrupts enable_interrupts refer_system define_service refer_service enter_service context_call left list_existing list_ready list_queue set_hook hook_call open_device refer_device request request_whole wait_ending close_device suspend_devices device_call expected arrive hand_over hand_first messages emptied read_bytes write_bytes accept picked serve_acceptance serve_acceptances serve_ending serve_endings is_with_driver serve_close serve_closes serve_suspension events_sent free_descriptor free_request first_queued at_driver accepted dropped handed asked devices_start block is_last blocks unit cut may_cut arrived entered returned body_returned family_call answered called follow_release follow_each with_releases dispatched followed insert_once with_requests handler_begun due_begun interrupt_begun served_within settle freed_within fallen due_done tick worked counted step sync_runs sync_run entered_2 runs start trace acted ran turn_of done_turn first_serving_2 serve_object state_start digits
 pace_of_one_run = refl
+
+-- A machine without a ready task takes the ticks and the interrupt that are pending before it is idle and ends.
+pending_before_the_end_script : Script
+pending_before_the_end_script = record {
+  devices = [];
+  pace = Some 2;
+  irqs = record { step = 5; number = 1 } ∷ [];
+  boot = record { body = 1; priority = 10 };
+  bodies =
+      record {
+        name = codes "main";
+        kind = kinds.Task;
+        labels = [];
+        stmts =
+            stmts.Call names.TkDefInt (args.Number (pos 1) ∷ args.Body 2 ∷ []) ∷
+            stmts.Call names.Di ([]) ∷
+            stmts.Say (codes "a") ∷
+            stmts.Say (codes "b") ∷
+            [];
+      } ∷
+      record {
+        name = codes "h";
+        kind = kinds.Hand;
+        labels = [];
+        stmts =
+            stmts.Say (codes "in") ∷
+            [];
+      } ∷
+      [];
+}
+
+pending_before_the_end_entries : List Entry
+pending_before_the_end_entries = []
+
+pending_before_the_end_lines : List ℕ
+pending_before_the_end_lines =
+    codes "0 D 1\n" ++
+    codes "1 C 1 tk_def_int 0\n" ++
+    codes "2 K 1\n" ++
+    codes "3 C 1 DI 0\n" ++
+    codes "4 S 1 a\n" ++
+    codes "5 S 1 b\n" ++
+    codes "6 C 1 tk_ext_tsk 0\n" ++
+    codes "6 D 0\n" ++
+    codes "7 K 2\n" ++
+    codes "8 K 3\n" ++
+    codes "9 K 4\n" ++
+    codes "10 K 5\n" ++
+    codes "11 I int 1\n" ++
+    codes "12 S 0 in\n" ++
+    codes "14 K 6\n" ++
+    codes "15 K 7\n" ++
+    codes "15 END idle\n" ++
+    []
+
+pending_before_the_end_run : text_of_lines (lines_of (trace pending_before_the_end_script modes.Free 100000 pending_before_the_end_entries)) ≡ pending_before_the_end_lines
+unfolding pending_before_the_end_script pending_before_the_end_entries pending_before_the_end_lines text_of form_of named made task_call_name sem_flag_call_name mutex_call_name mail_call_name pool_call_name time_call_name context_call_name device_call_name hook_call_name name_of code_of error_text coded error_named attributes_of flag_mode_of open_mode_of suspend_mode_of is_name_byte name_at_most why_text value_text words_of text_of_line text_of_lines fetch give call_before create_sem create_flag end_first delete_sem delete_flag refer_sem refer_flag signal_sem set_flag clear_flag wait_sem wait_flag sem_flag_call serve_sem serve_flag first_served serve_sem_flag sem_trial flag_trial chosen free_task create_task delete_task start_task exit_task terminate_task change_priority rotate_ready get_task refer_task sleep delay wake_up cancel_wakeups release_wait suspend_task resume_task task_call mark_of allowed free_from first_serving serve_box serve_mailboxes serve_buffer serve_buffers post create_box delete_box send_box receive_box refer_box create_buffer delete_buffer send_buffer receive_buffer refer_buffer mail_call create_mutex lock_mutex unlock_mutex refer_mutex delete_mutex mutex_call change_priority_beside task_call_beside chain_has current_of resettle free_last ceiling_allows serve_mutex serve_mutexes create_fixed delete_fixed get_fixed release_fixed refer_fixed create_variable delete_variable get_variable release_variable refer_variable pool_call first_free serve_fixed serve_fixed_pools serve_variable serve_variable_pools set_time get_time get_operating_time create_cyclic start_cyclic stop_cyclic delete_cyclic refer_cyclic create_alarm start_alarm stop_alarm delete_alarm refer_alarm time_call body_of next_due again define_handler disable_dispatch enable_dispatch disable_interrupts enable_interrupts refer_system define_service refer_service enter_service context_call left list_existing list_ready list_queue set_hook hook_call open_device refer_device request request_whole wait_ending close_device suspend_devices device_call expected arrive hand_over hand_first messages emptied read_bytes write_bytes accept picked serve_acceptance serve_acceptances serve_ending serve_endings is_with_driver serve_close serve_closes serve_suspension events_sent free_descriptor free_request first_queued at_driver accepted dropped handed asked devices_start block is_last blocks unit cut may_cut arrived entered returned body_returned family_call answered called follow_release follow_each with_releases dispatched followed insert_once with_requests handler_begun due_begun interrupt_begun served_within settle freed_within fallen due_done tick worked counted step sync_runs sync_run entered_2 runs start trace acted ran turn_of done_turn first_serving_2 serve_object state_start digits
+pending_before_the_end_run = refl
 
 -- What the system's state is told to be in each context, which task is the current one and which would be dispatched.
 -- Enabling one of the two doesn't enable the other, and dispatching waits for both; both may be asked for twice.
@@ -388,8 +478,8 @@ system_states_run : text_of_lines (lines_of (trace system_states_script modes.Fr
 unfolding system_states_script system_states_entries system_states_lines text_of form_of named made task_call_name sem_flag_call_name mutex_call_name mail_call_name pool_call_name time_call_name context_call_name device_call_name hook_call_name name_of code_of error_text coded error_named attributes_of flag_mode_of open_mode_of suspend_mode_of is_name_byte name_at_most why_text value_text words_of text_of_line text_of_lines fetch give call_before create_sem create_flag end_first delete_sem delete_flag refer_sem refer_flag signal_sem set_flag clear_flag wait_sem wait_flag sem_flag_call serve_sem serve_flag first_served serve_sem_flag sem_trial flag_trial chosen free_task create_task delete_task start_task exit_task terminate_task change_priority rotate_ready get_task refer_task sleep delay wake_up cancel_wakeups release_wait suspend_task resume_task task_call mark_of allowed free_from first_serving serve_box serve_mailboxes serve_buffer serve_buffers post create_box delete_box send_box receive_box refer_box create_buffer delete_buffer send_buffer receive_buffer refer_buffer mail_call create_mutex lock_mutex unlock_mutex refer_mutex delete_mutex mutex_call change_priority_beside task_call_beside chain_has current_of resettle free_last ceiling_allows serve_mutex serve_mutexes create_fixed delete_fixed get_fixed release_fixed refer_fixed create_variable delete_variable get_variable release_variable refer_variable pool_call first_free serve_fixed serve_fixed_pools serve_variable serve_variable_pools set_time get_time get_operating_time create_cyclic start_cyclic stop_cyclic delete_cyclic refer_cyclic create_alarm start_alarm stop_alarm delete_alarm refer_alarm time_call body_of next_due again define_handler disable_dispatch enable_dispatch disable_interrupts enable_interrupts refer_system define_service refer_service enter_service context_call left list_existing list_ready list_queue set_hook hook_call open_device refer_device request request_whole wait_ending close_device suspend_devices device_call expected arrive hand_over hand_first messages emptied read_bytes write_bytes accept picked serve_acceptance serve_acceptances serve_ending serve_endings is_with_driver serve_close serve_closes serve_suspension events_sent free_descriptor free_request first_queued at_driver accepted dropped handed asked devices_start block is_last blocks unit cut may_cut arrived entered returned body_returned family_call answered called follow_release follow_each with_releases dispatched followed insert_once with_requests handler_begun due_begun interrupt_begun served_within settle freed_within fallen due_done tick worked counted step sync_runs sync_run entered_2 runs start trace acted ran turn_of done_turn first_serving_2 serve_object state_start digits
 system_states_run = refl
 
--- While dispatching is disabled, and while interrupts are, no call that could wait is taken, also where it would only ask or has
--- all that it wants. A service of the task is in the same context. Unlocking is no such call.
+-- While dispatching is disabled, and while interrupts are, a call that could wait is refused, in a service of the task too, and also
+-- where it would only ask or has all that it wants. Unlocking is no such call.
 waits_refused_script : Script
 waits_refused_script = record {
   devices = [];

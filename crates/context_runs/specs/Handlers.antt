@@ -67,9 +67,9 @@ use Rattle.machine_model.specs.Runs.Turns.{acted, ran, turn_of, done_turn}
 use Rattle.machine_model.specs.States.Objects.{first_serving as first_serving_2, serve_object}
 use Rattle.machine_model.specs.States.State.{state_start}
 
--- An interrupt is dropped where its number has no handler as it comes, also where one is defined in that very step.
--- Undefining drops a pending one, and defining it again doesn't bring it back; another handler in its place takes it over. A handler
--- that undefines itself runs on to its end. An interrupt line that is to come keeps an idle machine going, with a handler or without.
+-- An interrupt is dropped where its number has no handler as it comes, and where it is undefined while pending; another handler in its
+-- place takes it over. A handler that undefines itself runs on, and an interrupt line that is to come keeps an idle machine going, with
+-- a handler or without.
 defined_while_pending_script : Script
 defined_while_pending_script = record {
   devices = [];
@@ -199,8 +199,8 @@ halt_in_a_handler_run : text_of_lines (lines_of (trace halt_in_a_handler_script 
 unfolding halt_in_a_handler_script halt_in_a_handler_entries halt_in_a_handler_lines text_of form_of named made task_call_name sem_flag_call_name mutex_call_name mail_call_name pool_call_name time_call_name context_call_name device_call_name hook_call_name name_of code_of error_text coded error_named attributes_of flag_mode_of open_mode_of suspend_mode_of is_name_byte name_at_most why_text value_text words_of text_of_line text_of_lines fetch give call_before create_sem create_flag end_first delete_sem delete_flag refer_sem refer_flag signal_sem set_flag clear_flag wait_sem wait_flag sem_flag_call serve_sem serve_flag first_served serve_sem_flag sem_trial flag_trial chosen free_task create_task delete_task start_task exit_task terminate_task change_priority rotate_ready get_task refer_task sleep delay wake_up cancel_wakeups release_wait suspend_task resume_task task_call mark_of allowed free_from first_serving serve_box serve_mailboxes serve_buffer serve_buffers post create_box delete_box send_box receive_box refer_box create_buffer delete_buffer send_buffer receive_buffer refer_buffer mail_call create_mutex lock_mutex unlock_mutex refer_mutex delete_mutex mutex_call change_priority_beside task_call_beside chain_has current_of resettle free_last ceiling_allows serve_mutex serve_mutexes create_fixed delete_fixed get_fixed release_fixed refer_fixed create_variable delete_variable get_variable release_variable refer_variable pool_call first_free serve_fixed serve_fixed_pools serve_variable serve_variable_pools set_time get_time get_operating_time create_cyclic start_cyclic stop_cyclic delete_cyclic refer_cyclic create_alarm start_alarm stop_alarm delete_alarm refer_alarm time_call body_of next_due again define_handler disable_dispatch enable_dispatch disable_interrupts enable_interrupts refer_system define_service refer_service enter_service context_call left list_existing list_ready list_queue set_hook hook_call open_device refer_device request request_whole wait_ending close_device suspend_devices device_call expected arrive hand_over hand_first messages emptied read_bytes write_bytes accept picked serve_acceptance serve_acceptances serve_ending serve_endings is_with_driver serve_close serve_closes serve_suspension events_sent free_descriptor free_request first_queued at_driver accepted dropped handed asked devices_start block is_last blocks unit cut may_cut arrived entered returned body_returned family_call answered called follow_release follow_each with_releases dispatched followed insert_once with_requests handler_begun due_begun interrupt_begun served_within settle freed_within fallen due_done tick worked counted step sync_runs sync_run entered_2 runs start trace acted ran turn_of done_turn first_serving_2 serve_object state_start digits
 halt_in_a_handler_run = refl
 
--- A tick comes before interrupts, and a due handler before them, too; the second due handler waits for the first one's end.
--- Of two interrupts the lesser number starts first. A number is pending once, and again where it comes while its own handler runs.
+-- A tick comes before interrupts, and due handlers, one after the other, come before both; of two interrupts the lesser number starts
+-- first. A number is pending once, and once more where it comes while its own handler runs.
 order_of_starts_script : Script
 order_of_starts_script = record {
   devices = [];
@@ -275,13 +275,13 @@ order_of_starts_run : text_of_lines (lines_of (trace order_of_starts_script mode
 unfolding order_of_starts_script order_of_starts_entries order_of_starts_lines text_of form_of named made task_call_name sem_flag_call_name mutex_call_name mail_call_name pool_call_name time_call_name context_call_name device_call_name hook_call_name name_of code_of error_text coded error_named attributes_of flag_mode_of open_mode_of suspend_mode_of is_name_byte name_at_most why_text value_text words_of text_of_line text_of_lines fetch give call_before create_sem create_flag end_first delete_sem delete_flag refer_sem refer_flag signal_sem set_flag clear_flag wait_sem wait_flag sem_flag_call serve_sem serve_flag first_served serve_sem_flag sem_trial flag_trial chosen free_task create_task delete_task start_task exit_task terminate_task change_priority rotate_ready get_task refer_task sleep delay wake_up cancel_wakeups release_wait suspend_task resume_task task_call mark_of allowed free_from first_serving serve_box serve_mailboxes serve_buffer serve_buffers post create_box delete_box send_box receive_box refer_box create_buffer delete_buffer send_buffer receive_buffer refer_buffer mail_call create_mutex lock_mutex unlock_mutex refer_mutex delete_mutex mutex_call change_priority_beside task_call_beside chain_has current_of resettle free_last ceiling_allows serve_mutex serve_mutexes create_fixed delete_fixed get_fixed release_fixed refer_fixed create_variable delete_variable get_variable release_variable refer_variable pool_call first_free serve_fixed serve_fixed_pools serve_variable serve_variable_pools set_time get_time get_operating_time create_cyclic start_cyclic stop_cyclic delete_cyclic refer_cyclic create_alarm start_alarm stop_alarm delete_alarm refer_alarm time_call body_of next_due again define_handler disable_dispatch enable_dispatch disable_interrupts enable_interrupts refer_system define_service refer_service enter_service context_call left list_existing list_ready list_queue set_hook hook_call open_device refer_device request request_whole wait_ending close_device suspend_devices device_call expected arrive hand_over hand_first messages emptied read_bytes write_bytes accept picked serve_acceptance serve_acceptances serve_ending serve_endings is_with_driver serve_close serve_closes serve_suspension events_sent free_descriptor free_request first_queued at_driver accepted dropped handed asked devices_start block is_last blocks unit cut may_cut arrived entered returned body_returned family_call answered called follow_release follow_each with_releases dispatched followed insert_once with_requests handler_begun due_begun interrupt_begun served_within settle freed_within fallen due_done tick worked counted step sync_runs sync_run entered_2 runs start trace acted ran turn_of done_turn first_serving_2 serve_object state_start digits
 order_of_starts_run = refl
 
--- What a handler makes ready is dispatched at the handler's end, and the task that it preempts keeps its place before its equals.
--- A task that a handler suspends and resumes is the current one no more: it stands last, and is dispatched anew, also where it is alone.
+-- A task that is preempted by what a handler made ready keeps its place before its equals. One that a handler suspends is the current
+-- one no more: resumed, it stands last, and is dispatched anew, also where it is alone.
 place_of_the_preempted_script : Script
 place_of_the_preempted_script = record {
   devices = [];
   pace = None;
-  irqs = record { step = 6; number = 1 } ∷ record { step = 14; number = 2 } ∷ record { step = 25; number = 2 } ∷ [];
+  irqs = record { step = 8; number = 1 } ∷ record { step = 16; number = 2 } ∷ record { step = 27; number = 2 } ∷ record { step = 36; number = 3 } ∷ record { step = 40; number = 4 } ∷ [];
   boot = record { body = 1; priority = 10 };
   bodies =
       record {
@@ -291,12 +291,15 @@ place_of_the_preempted_script = record {
         stmts =
             stmts.Call names.TkDefInt (args.Number (pos 1) ∷ args.Body 4 ∷ []) ∷
             stmts.Call names.TkDefInt (args.Number (pos 2) ∷ args.Body 5 ∷ []) ∷
+            stmts.Call names.TkDefInt (args.Number (pos 3) ∷ args.Body 6 ∷ []) ∷
+            stmts.Call names.TkDefInt (args.Number (pos 4) ∷ args.Body 7 ∷ []) ∷
             stmts.Call names.TkCreTsk (args.List 0 ∷ args.Body 2 ∷ args.Number (pos 10) ∷ args.Number (pos 512) ∷ []) ∷
             stmts.Call names.TkCreTsk (args.List 0 ∷ args.Body 3 ∷ args.Number (pos 5) ∷ args.Number (pos 512) ∷ []) ∷
             stmts.Call names.TkStaTsk (args.Number (pos 2) ∷ args.Number (pos 0) ∷ []) ∷
             stmts.Say (codes "a") ∷
             stmts.Say (codes "b") ∷
             stmts.Say (codes "c") ∷
+            stmts.Say (codes "d") ∷
             [];
       } ∷
       record {
@@ -323,6 +326,7 @@ place_of_the_preempted_script = record {
             stmts.Call names.TkStaTsk (args.Number (pos 3) ∷ args.Number (pos 0) ∷ []) ∷
             stmts.Call names.TkRefTsk (args.Number (pos 1) ∷ []) ∷
             stmts.Call names.TkRefSys ([]) ∷
+            stmts.Return (operands.Number (negsuc 0)) ∷
             [];
       } ∷
       record {
@@ -338,6 +342,22 @@ place_of_the_preempted_script = record {
             stmts.Call names.TkRefTsk (args.Number (pos 1) ∷ []) ∷
             [];
       } ∷
+      record {
+        name = codes "off";
+        kind = kinds.Hand;
+        labels = [];
+        stmts =
+            stmts.Call names.TkSusTsk (args.Number (pos 1) ∷ []) ∷
+            [];
+      } ∷
+      record {
+        name = codes "on";
+        kind = kinds.Hand;
+        labels = [];
+        stmts =
+            stmts.Call names.TkRsmTsk (args.Number (pos 1) ∷ []) ∷
+            [];
+      } ∷
       [];
 }
 
@@ -349,42 +369,52 @@ place_of_the_preempted_lines =
     codes "0 D 1\n" ++
     codes "1 C 1 tk_def_int 0\n" ++
     codes "2 C 1 tk_def_int 0\n" ++
-    codes "3 C 1 tk_cre_tsk 2\n" ++
-    codes "4 C 1 tk_cre_tsk 3\n" ++
-    codes "5 C 1 tk_sta_tsk 0\n" ++
-    codes "6 I int 1\n" ++
-    codes "7 C 0 tk_sta_tsk 0\n" ++
-    codes "8 C 0 tk_ref_tsk 0 1 10 10 0 0\n" ++
-    codes "9 C 0 tk_ref_sys 0 3 1 3\n" ++
-    codes "10 D 3\n" ++
-    codes "11 S 3 h\n" ++
-    codes "12 C 3 tk_ext_tsk 0\n" ++
-    codes "12 D 1\n" ++
-    codes "13 S 1 a\n" ++
-    codes "14 I int 2\n" ++
-    codes "15 C 0 tk_sus_tsk 0\n" ++
-    codes "16 C 0 tk_ref_sys 0 3 0 2\n" ++
-    codes "17 C 0 tk_get_tid 0\n" ++
-    codes "18 C 0 tk_rot_rdq 0\n" ++
-    codes "19 C 0 tk_rsm_tsk 0\n" ++
-    codes "20 C 0 tk_ref_tsk 0 2 10 10 0 0\n" ++
-    codes "21 D 2\n" ++
-    codes "22 S 2 w\n" ++
-    codes "23 C 2 tk_ext_tsk 0\n" ++
-    codes "23 D 1\n" ++
-    codes "24 S 1 b\n" ++
-    codes "25 I int 2\n" ++
-    codes "26 C 0 tk_sus_tsk 0\n" ++
-    codes "27 C 0 tk_ref_sys 0 3 0 0\n" ++
-    codes "28 C 0 tk_get_tid 0\n" ++
-    codes "29 C 0 tk_rot_rdq 0\n" ++
-    codes "30 C 0 tk_rsm_tsk 0\n" ++
-    codes "31 C 0 tk_ref_tsk 0 2 10 10 0 0\n" ++
-    codes "32 D 1\n" ++
-    codes "33 S 1 c\n" ++
-    codes "34 C 1 tk_ext_tsk 0\n" ++
-    codes "34 D 0\n" ++
-    codes "34 END idle\n" ++
+    codes "3 C 1 tk_def_int 0\n" ++
+    codes "4 C 1 tk_def_int 0\n" ++
+    codes "5 C 1 tk_cre_tsk 2\n" ++
+    codes "6 C 1 tk_cre_tsk 3\n" ++
+    codes "7 C 1 tk_sta_tsk 0\n" ++
+    codes "8 I int 1\n" ++
+    codes "9 C 0 tk_sta_tsk 0\n" ++
+    codes "10 C 0 tk_ref_tsk 0 1 10 10 0 0\n" ++
+    codes "11 C 0 tk_ref_sys 0 3 1 3\n" ++
+    codes "12 D 3\n" ++
+    codes "13 S 3 h\n" ++
+    codes "14 C 3 tk_ext_tsk 0\n" ++
+    codes "14 D 1\n" ++
+    codes "15 S 1 a\n" ++
+    codes "16 I int 2\n" ++
+    codes "17 C 0 tk_sus_tsk 0\n" ++
+    codes "18 C 0 tk_ref_sys 0 3 0 2\n" ++
+    codes "19 C 0 tk_get_tid 0\n" ++
+    codes "20 C 0 tk_rot_rdq 0\n" ++
+    codes "21 C 0 tk_rsm_tsk 0\n" ++
+    codes "22 C 0 tk_ref_tsk 0 2 10 10 0 0\n" ++
+    codes "23 D 2\n" ++
+    codes "24 S 2 w\n" ++
+    codes "25 C 2 tk_ext_tsk 0\n" ++
+    codes "25 D 1\n" ++
+    codes "26 S 1 b\n" ++
+    codes "27 I int 2\n" ++
+    codes "28 C 0 tk_sus_tsk 0\n" ++
+    codes "29 C 0 tk_ref_sys 0 3 0 0\n" ++
+    codes "30 C 0 tk_get_tid 0\n" ++
+    codes "31 C 0 tk_rot_rdq 0\n" ++
+    codes "32 C 0 tk_rsm_tsk 0\n" ++
+    codes "33 C 0 tk_ref_tsk 0 2 10 10 0 0\n" ++
+    codes "34 D 1\n" ++
+    codes "35 S 1 c\n" ++
+    codes "36 I int 3\n" ++
+    codes "37 C 0 tk_sus_tsk 0\n" ++
+    codes "38 D 0\n" ++
+    codes "39 K 1\n" ++
+    codes "40 I int 4\n" ++
+    codes "41 C 0 tk_rsm_tsk 0\n" ++
+    codes "42 D 1\n" ++
+    codes "43 S 1 d\n" ++
+    codes "44 C 1 tk_ext_tsk 0\n" ++
+    codes "44 D 0\n" ++
+    codes "44 END idle\n" ++
     []
 
 place_of_the_preempted_run : text_of_lines (lines_of (trace place_of_the_preempted_script modes.Free 100000 place_of_the_preempted_entries)) ≡ place_of_the_preempted_lines
