@@ -2,3 +2,4 @@
 pub mod Tables
 pub mod Lists
 pub mod Calls
+pub mod Readings

@@ -34,7 +34,7 @@ use Rattle.object_model.specs.Mails.Buffers.{serve_buffer, serve_buffers, post}
 use Rattle.object_model.specs.Mails.Calls.{create_box, delete_box, send_box, receive_box, refer_box, create_buffer, delete_buffer, send_buffer, receive_buffer, refer_buffer, mail_call}
 use Rattle.object_model.specs.Mutexes.Calls.{create_mutex, lock_mutex, unlock_mutex, refer_mutex, delete_mutex, mutex_call, change_priority_beside, task_call_beside}
 use Rattle.object_model.specs.Mutexes.Priority.{chain_has, current_of, resettle}
-use Rattle.object_model.specs.Mutexes.Tables.{free_last, ceiling_allows, serve_mutex, first_served as first_served_2, serve_mutexes}
+use Rattle.object_model.specs.Mutexes.Tables.{free_last, ceiling_allows, serve_mutex, serve_mutexes}
 use Rattle.object_model.specs.Pools.Calls.{create_fixed, delete_fixed, get_fixed, release_fixed, refer_fixed, create_variable, delete_variable, get_variable, release_variable, refer_variable, pool_call}
 use Rattle.object_model.specs.Pools.Fixed.{first_free, serve_fixed, serve_fixed_pools}
 use Rattle.object_model.specs.Pools.Variable.{serve_variable, serve_variable_pools}
@@ -60,6 +60,7 @@ use Rattle.machine_model.specs.Events.Follow.{follow_release, follow_each, with_
 use Rattle.machine_model.specs.Events.Handlers.{insert_once, with_requests, handler_begun, due_begun, interrupt_begun}
 use Rattle.machine_model.specs.Events.Settle.{served_within, settle, freed_within}
 use Rattle.machine_model.specs.Events.Ticks.{fallen, due_done, tick}
+use Rattle.machine_model.specs.Runs.Reached.{state_after}
 use Rattle.machine_model.specs.Runs.Step.{worked, counted, step}
 use Rattle.machine_model.specs.Runs.SyncTrace.{sync_runs, sync_run}
 use Rattle.machine_model.specs.Runs.Trace.{lines_of, entered as entered_2, runs, start, trace}
@@ -142,8 +143,111 @@ dispatch_hook_lines =
     []
 
 dispatch_hook_run : text_of_lines (lines_of (trace dispatch_hook_script modes.Free 100000 dispatch_hook_entries)) ≡ dispatch_hook_lines
-unfolding dispatch_hook_script dispatch_hook_entries dispatch_hook_lines text_of form_of named made task_call_name sem_flag_call_name mutex_call_name mail_call_name pool_call_name time_call_name context_call_name device_call_name hook_call_name name_of code_of error_text coded error_named attributes_of flag_mode_of open_mode_of suspend_mode_of is_name_byte name_at_most why_text value_text words_of text_of_line text_of_lines fetch give call_before create_sem create_flag end_first delete_sem delete_flag refer_sem refer_flag signal_sem set_flag clear_flag wait_sem wait_flag sem_flag_call serve_sem serve_flag first_served serve_sem_flag sem_trial flag_trial chosen free_task create_task delete_task start_task exit_task terminate_task change_priority rotate_ready get_task refer_task sleep delay wake_up cancel_wakeups release_wait suspend_task resume_task task_call mark_of allowed free_from first_serving serve_box serve_mailboxes serve_buffer serve_buffers post create_box delete_box send_box receive_box refer_box create_buffer delete_buffer send_buffer receive_buffer refer_buffer mail_call create_mutex lock_mutex unlock_mutex refer_mutex delete_mutex mutex_call change_priority_beside task_call_beside chain_has current_of resettle free_last ceiling_allows serve_mutex first_served_2 serve_mutexes create_fixed delete_fixed get_fixed release_fixed refer_fixed create_variable delete_variable get_variable release_variable refer_variable pool_call first_free serve_fixed serve_fixed_pools serve_variable serve_variable_pools set_time get_time get_operating_time create_cyclic start_cyclic stop_cyclic delete_cyclic refer_cyclic create_alarm start_alarm stop_alarm delete_alarm refer_alarm time_call body_of next_due again define_handler disable_dispatch enable_dispatch disable_interrupts enable_interrupts refer_system define_service refer_service enter_service context_call left list_existing list_ready list_queue set_hook hook_call open_device refer_device request request_whole wait_ending close_device suspend_devices device_call expected arrive hand_over hand_first messages emptied read_bytes write_bytes accept picked serve_acceptance serve_acceptances serve_ending serve_endings is_with_driver serve_close serve_closes serve_suspension events_sent free_descriptor free_request first_queued at_driver accepted dropped handed asked devices_start block is_last blocks unit cut may_cut arrived entered returned body_returned family_call answered called follow_release follow_each with_releases dispatched followed insert_once with_requests handler_begun due_begun interrupt_begun served_within settle freed_within fallen due_done tick worked counted step sync_runs sync_run entered_2 runs start trace acted ran turn_of done_turn first_serving_2 serve_object state_start digits
+unfolding dispatch_hook_script dispatch_hook_entries dispatch_hook_lines text_of form_of named made task_call_name sem_flag_call_name mutex_call_name mail_call_name pool_call_name time_call_name context_call_name device_call_name hook_call_name name_of code_of error_text coded error_named attributes_of flag_mode_of open_mode_of suspend_mode_of is_name_byte name_at_most why_text value_text words_of text_of_line text_of_lines fetch give call_before create_sem create_flag end_first delete_sem delete_flag refer_sem refer_flag signal_sem set_flag clear_flag wait_sem wait_flag sem_flag_call serve_sem serve_flag first_served serve_sem_flag sem_trial flag_trial chosen free_task create_task delete_task start_task exit_task terminate_task change_priority rotate_ready get_task refer_task sleep delay wake_up cancel_wakeups release_wait suspend_task resume_task task_call mark_of allowed free_from first_serving serve_box serve_mailboxes serve_buffer serve_buffers post create_box delete_box send_box receive_box refer_box create_buffer delete_buffer send_buffer receive_buffer refer_buffer mail_call create_mutex lock_mutex unlock_mutex refer_mutex delete_mutex mutex_call change_priority_beside task_call_beside chain_has current_of resettle free_last ceiling_allows serve_mutex serve_mutexes create_fixed delete_fixed get_fixed release_fixed refer_fixed create_variable delete_variable get_variable release_variable refer_variable pool_call first_free serve_fixed serve_fixed_pools serve_variable serve_variable_pools set_time get_time get_operating_time create_cyclic start_cyclic stop_cyclic delete_cyclic refer_cyclic create_alarm start_alarm stop_alarm delete_alarm refer_alarm time_call body_of next_due again define_handler disable_dispatch enable_dispatch disable_interrupts enable_interrupts refer_system define_service refer_service enter_service context_call left list_existing list_ready list_queue set_hook hook_call open_device refer_device request request_whole wait_ending close_device suspend_devices device_call expected arrive hand_over hand_first messages emptied read_bytes write_bytes accept picked serve_acceptance serve_acceptances serve_ending serve_endings is_with_driver serve_close serve_closes serve_suspension events_sent free_descriptor free_request first_queued at_driver accepted dropped handed asked devices_start block is_last blocks unit cut may_cut arrived entered returned body_returned family_call answered called follow_release follow_each with_releases dispatched followed insert_once with_requests handler_begun due_begun interrupt_begun served_within settle freed_within fallen due_done tick state_after worked counted step sync_runs sync_run entered_2 runs start trace acted ran turn_of done_turn first_serving_2 serve_object state_start digits
 dispatch_hook_run = refl
+
+-- The hooks on starts and on dispatches count as they stand when the line comes, so a handler decides on the next one's start and on
+-- the dispatch at its own end. A service that takes the hook on calls off returns without it.
+hooks_set_by_handlers_script : Script
+hooks_set_by_handlers_script = record {
+  devices = [];
+  pace = None;
+  irqs = [];
+  boot = record { body = 1; priority = 10 };
+  bodies =
+      record {
+        name = codes "main";
+        kind = kinds.Task;
+        labels = [];
+        stmts =
+            stmts.Call names.TkCreCyc (args.List 65536 ∷ args.Body 2 ∷ args.Number (pos 5) ∷ args.Number (pos 0) ∷ []) ∷
+            stmts.Call names.TkCreAlm (args.List 0 ∷ args.Body 3 ∷ []) ∷
+            stmts.Call names.TkStaAlm (args.Number (pos 1) ∷ args.Number (pos 0) ∷ []) ∷
+            stmts.Call names.TkDefSsy (args.Number (pos 1) ∷ args.Body 4 ∷ []) ∷
+            stmts.Call names.TdHokInt (args.Number (pos 1) ∷ []) ∷
+            stmts.Call names.TdHokSvc (args.Number (pos 1) ∷ []) ∷
+            stmts.Call names.Svc (args.Number (pos 1) ∷ args.Number (pos 0) ∷ []) ∷
+            stmts.Call names.TkDlyTsk (args.Number (pos 1) ∷ []) ∷
+            stmts.Call names.TdHokDsp (args.Number (pos 0) ∷ []) ∷
+            stmts.Call names.TkDelAlm (args.Number (pos 1) ∷ []) ∷
+            [];
+      } ∷
+      record {
+        name = codes "c";
+        kind = kinds.Hand;
+        labels = [];
+        stmts =
+            stmts.Call names.TdHokInt (args.Number (pos 0) ∷ []) ∷
+            stmts.Call names.TdHokDsp (args.Number (pos 1) ∷ []) ∷
+            [];
+      } ∷
+      record {
+        name = codes "a";
+        kind = kinds.Hand;
+        labels = [];
+        stmts =
+            stmts.Call names.TdHokInt (args.Number (pos 1) ∷ []) ∷
+            stmts.Call names.TkStaAlm (args.Number (pos 1) ∷ args.Number (pos 0) ∷ []) ∷
+            stmts.Call names.TkStpCyc (args.Number (pos 1) ∷ []) ∷
+            [];
+      } ∷
+      record {
+        name = codes "s";
+        kind = kinds.Svc;
+        labels = [];
+        stmts =
+            stmts.Call names.TdHokSvc (args.Number (pos 0) ∷ []) ∷
+            stmts.Return (operands.Number (pos 9)) ∷
+            [];
+      } ∷
+      [];
+}
+
+hooks_set_by_handlers_entries : List Entry
+hooks_set_by_handlers_entries = []
+
+hooks_set_by_handlers_lines : List ℕ
+hooks_set_by_handlers_lines =
+    codes "0 D 1\n" ++
+    codes "1 C 1 tk_cre_cyc 1\n" ++
+    codes "2 C 1 tk_cre_alm 1\n" ++
+    codes "3 C 1 tk_sta_alm 0\n" ++
+    codes "4 C 1 tk_def_ssy 0\n" ++
+    codes "5 C 1 td_hok_int 0\n" ++
+    codes "6 C 1 td_hok_svc 0\n" ++
+    codes "8 O svc 1 td_hok_svc\n" ++
+    codes "8 C 1 td_hok_svc 0\n" ++
+    codes "9 C 1 svc 9\n" ++
+    codes "10 B 1 tk_dly_tsk\n" ++
+    codes "10 D 0\n" ++
+    codes "11 K 1\n" ++
+    codes "12 O int cyc 1\n" ++
+    codes "12 I cyc 1\n" ++
+    codes "13 C 0 td_hok_int 0\n" ++
+    codes "14 C 0 td_hok_dsp 0\n" ++
+    codes "16 I alm 1\n" ++
+    codes "17 C 0 td_hok_int 0\n" ++
+    codes "18 C 0 tk_sta_alm 0\n" ++
+    codes "19 C 0 tk_stp_cyc 0\n" ++
+    codes "21 K 2\n" ++
+    codes "21 W 1 tk_dly_tsk 0\n" ++
+    codes "22 O int alm 1\n" ++
+    codes "22 I alm 1\n" ++
+    codes "23 C 0 td_hok_int 0\n" ++
+    codes "24 C 0 tk_sta_alm 0\n" ++
+    codes "25 C 0 tk_stp_cyc 0\n" ++
+    codes "26 O dsp 1\n" ++
+    codes "26 D 1\n" ++
+    codes "27 C 1 td_hok_dsp 0\n" ++
+    codes "28 C 1 tk_del_alm 0\n" ++
+    codes "29 C 1 tk_ext_tsk 0\n" ++
+    codes "29 D 0\n" ++
+    codes "29 END idle\n" ++
+    []
+
+hooks_set_by_handlers_run : text_of_lines (lines_of (trace hooks_set_by_handlers_script modes.Free 100000 hooks_set_by_handlers_entries)) ≡ hooks_set_by_handlers_lines
+unfolding hooks_set_by_handlers_script hooks_set_by_handlers_entries hooks_set_by_handlers_lines text_of form_of named made task_call_name sem_flag_call_name mutex_call_name mail_call_name pool_call_name time_call_name context_call_name device_call_name hook_call_name name_of code_of error_text coded error_named attributes_of flag_mode_of open_mode_of suspend_mode_of is_name_byte name_at_most why_text value_text words_of text_of_line text_of_lines fetch give call_before create_sem create_flag end_first delete_sem delete_flag refer_sem refer_flag signal_sem set_flag clear_flag wait_sem wait_flag sem_flag_call serve_sem serve_flag first_served serve_sem_flag sem_trial flag_trial chosen free_task create_task delete_task start_task exit_task terminate_task change_priority rotate_ready get_task refer_task sleep delay wake_up cancel_wakeups release_wait suspend_task resume_task task_call mark_of allowed free_from first_serving serve_box serve_mailboxes serve_buffer serve_buffers post create_box delete_box send_box receive_box refer_box create_buffer delete_buffer send_buffer receive_buffer refer_buffer mail_call create_mutex lock_mutex unlock_mutex refer_mutex delete_mutex mutex_call change_priority_beside task_call_beside chain_has current_of resettle free_last ceiling_allows serve_mutex serve_mutexes create_fixed delete_fixed get_fixed release_fixed refer_fixed create_variable delete_variable get_variable release_variable refer_variable pool_call first_free serve_fixed serve_fixed_pools serve_variable serve_variable_pools set_time get_time get_operating_time create_cyclic start_cyclic stop_cyclic delete_cyclic refer_cyclic create_alarm start_alarm stop_alarm delete_alarm refer_alarm time_call body_of next_due again define_handler disable_dispatch enable_dispatch disable_interrupts enable_interrupts refer_system define_service refer_service enter_service context_call left list_existing list_ready list_queue set_hook hook_call open_device refer_device request request_whole wait_ending close_device suspend_devices device_call expected arrive hand_over hand_first messages emptied read_bytes write_bytes accept picked serve_acceptance serve_acceptances serve_ending serve_endings is_with_driver serve_close serve_closes serve_suspension events_sent free_descriptor free_request first_queued at_driver accepted dropped handed asked devices_start block is_last blocks unit cut may_cut arrived entered returned body_returned family_call answered called follow_release follow_each with_releases dispatched followed insert_once with_requests handler_begun due_begun interrupt_begun served_within settle freed_within fallen due_done tick state_after worked counted step sync_runs sync_run entered_2 runs start trace acted ran turn_of done_turn first_serving_2 serve_object state_start digits
+hooks_set_by_handlers_run = refl
 
 -- The hook on calls stands before their lines; what was set before a call decides on its own line.
 service_hook_script : Script
@@ -185,5 +289,120 @@ service_hook_lines =
     []
 
 service_hook_run : text_of_lines (lines_of (trace service_hook_script modes.Free 100000 service_hook_entries)) ≡ service_hook_lines
-unfolding service_hook_script service_hook_entries service_hook_lines text_of form_of named made task_call_name sem_flag_call_name mutex_call_name mail_call_name pool_call_name time_call_name context_call_name device_call_name hook_call_name name_of code_of error_text coded error_named attributes_of flag_mode_of open_mode_of suspend_mode_of is_name_byte name_at_most why_text value_text words_of text_of_line text_of_lines fetch give call_before create_sem create_flag end_first delete_sem delete_flag refer_sem refer_flag signal_sem set_flag clear_flag wait_sem wait_flag sem_flag_call serve_sem serve_flag first_served serve_sem_flag sem_trial flag_trial chosen free_task create_task delete_task start_task exit_task terminate_task change_priority rotate_ready get_task refer_task sleep delay wake_up cancel_wakeups release_wait suspend_task resume_task task_call mark_of allowed free_from first_serving serve_box serve_mailboxes serve_buffer serve_buffers post create_box delete_box send_box receive_box refer_box create_buffer delete_buffer send_buffer receive_buffer refer_buffer mail_call create_mutex lock_mutex unlock_mutex refer_mutex delete_mutex mutex_call change_priority_beside task_call_beside chain_has current_of resettle free_last ceiling_allows serve_mutex first_served_2 serve_mutexes create_fixed delete_fixed get_fixed release_fixed refer_fixed create_variable delete_variable get_variable release_variable refer_variable pool_call first_free serve_fixed serve_fixed_pools serve_variable serve_variable_pools set_time get_time get_operating_time create_cyclic start_cyclic stop_cyclic delete_cyclic refer_cyclic create_alarm start_alarm stop_alarm delete_alarm refer_alarm time_call body_of next_due again define_handler disable_dispatch enable_dispatch disable_interrupts enable_interrupts refer_system define_service refer_service enter_service context_call left list_existing list_ready list_queue set_hook hook_call open_device refer_device request request_whole wait_ending close_device suspend_devices device_call expected arrive hand_over hand_first messages emptied read_bytes write_bytes accept picked serve_acceptance serve_acceptances serve_ending serve_endings is_with_driver serve_close serve_closes serve_suspension events_sent free_descriptor free_request first_queued at_driver accepted dropped handed asked devices_start block is_last blocks unit cut may_cut arrived entered returned body_returned family_call answered called follow_release follow_each with_releases dispatched followed insert_once with_requests handler_begun due_begun interrupt_begun served_within settle freed_within fallen due_done tick worked counted step sync_runs sync_run entered_2 runs start trace acted ran turn_of done_turn first_serving_2 serve_object state_start digits
+unfolding service_hook_script service_hook_entries service_hook_lines text_of form_of named made task_call_name sem_flag_call_name mutex_call_name mail_call_name pool_call_name time_call_name context_call_name device_call_name hook_call_name name_of code_of error_text coded error_named attributes_of flag_mode_of open_mode_of suspend_mode_of is_name_byte name_at_most why_text value_text words_of text_of_line text_of_lines fetch give call_before create_sem create_flag end_first delete_sem delete_flag refer_sem refer_flag signal_sem set_flag clear_flag wait_sem wait_flag sem_flag_call serve_sem serve_flag first_served serve_sem_flag sem_trial flag_trial chosen free_task create_task delete_task start_task exit_task terminate_task change_priority rotate_ready get_task refer_task sleep delay wake_up cancel_wakeups release_wait suspend_task resume_task task_call mark_of allowed free_from first_serving serve_box serve_mailboxes serve_buffer serve_buffers post create_box delete_box send_box receive_box refer_box create_buffer delete_buffer send_buffer receive_buffer refer_buffer mail_call create_mutex lock_mutex unlock_mutex refer_mutex delete_mutex mutex_call change_priority_beside task_call_beside chain_has current_of resettle free_last ceiling_allows serve_mutex serve_mutexes create_fixed delete_fixed get_fixed release_fixed refer_fixed create_variable delete_variable get_variable release_variable refer_variable pool_call first_free serve_fixed serve_fixed_pools serve_variable serve_variable_pools set_time get_time get_operating_time create_cyclic start_cyclic stop_cyclic delete_cyclic refer_cyclic create_alarm start_alarm stop_alarm delete_alarm refer_alarm time_call body_of next_due again define_handler disable_dispatch enable_dispatch disable_interrupts enable_interrupts refer_system define_service refer_service enter_service context_call left list_existing list_ready list_queue set_hook hook_call open_device refer_device request request_whole wait_ending close_device suspend_devices device_call expected arrive hand_over hand_first messages emptied read_bytes write_bytes accept picked serve_acceptance serve_acceptances serve_ending serve_endings is_with_driver serve_close serve_closes serve_suspension events_sent free_descriptor free_request first_queued at_driver accepted dropped handed asked devices_start block is_last blocks unit cut may_cut arrived entered returned body_returned family_call answered called follow_release follow_each with_releases dispatched followed insert_once with_requests handler_begun due_begun interrupt_begun served_within settle freed_within fallen due_done tick state_after worked counted step sync_runs sync_run entered_2 runs start trace acted ran turn_of done_turn first_serving_2 serve_object state_start digits
 service_hook_run = refl
+
+-- The hooks on calls, dispatches and starts of handlers stand directly before their lines, also where a call is refused or waits; the
+-- entry of a service and the end of a wait have none. A hook that a service sets stands before the line of its return, and wrong values
+-- are refused.
+three_hooks_script : Script
+three_hooks_script = record {
+  devices = [];
+  pace = None;
+  irqs = record { step = 16; number = 1 } ∷ [];
+  boot = record { body = 1; priority = 10 };
+  bodies =
+      record {
+        name = codes "main";
+        kind = kinds.Task;
+        labels = [];
+        stmts =
+            stmts.Call names.TkDefInt (args.Number (pos 1) ∷ args.Body 4 ∷ []) ∷
+            stmts.Call names.TkDefSsy (args.Number (pos 1) ∷ args.Body 3 ∷ []) ∷
+            stmts.Call names.TkCreTsk (args.List 0 ∷ args.Body 2 ∷ args.Number (pos 5) ∷ args.Number (pos 512) ∷ []) ∷
+            stmts.Call names.TdHokSvc (args.Number (pos 2) ∷ []) ∷
+            stmts.Call names.TdHokDsp (args.Number (negsuc 0) ∷ []) ∷
+            stmts.Call names.TdHokInt (args.Number (pos 2) ∷ []) ∷
+            stmts.Call names.TdHokDsp (args.Number (pos 1) ∷ []) ∷
+            stmts.Call names.TdHokSvc (args.Number (pos 1) ∷ []) ∷
+            stmts.Call names.TkStaTsk (args.Number (pos 2) ∷ args.Number (pos 0) ∷ []) ∷
+            stmts.Call names.Svc (args.Number (pos 1) ∷ args.Number (pos 0) ∷ []) ∷
+            stmts.Call names.TkSlpTsk (args.Number (pos 0) ∷ []) ∷
+            [];
+      } ∷
+      record {
+        name = codes "high";
+        kind = kinds.Task;
+        labels = [];
+        stmts =
+            stmts.Call names.TkSlpTsk (args.Number (pos 1) ∷ []) ∷
+            [];
+      } ∷
+      record {
+        name = codes "s";
+        kind = kinds.Svc;
+        labels = [];
+        stmts =
+            stmts.Call names.TdHokSvc (args.Number (pos 0) ∷ []) ∷
+            stmts.Call names.TdHokInt (args.Number (pos 1) ∷ []) ∷
+            stmts.Call names.TdHokSvc (args.Number (pos 1) ∷ []) ∷
+            stmts.Return (operands.Number (pos 3)) ∷
+            [];
+      } ∷
+      record {
+        name = codes "h";
+        kind = kinds.Hand;
+        labels = [];
+        stmts =
+            stmts.Call names.TdHokInt (args.Number (pos 0) ∷ []) ∷
+            stmts.Call names.TkSlpTsk (args.Number (pos 0) ∷ []) ∷
+            [];
+      } ∷
+      [];
+}
+
+three_hooks_entries : List Entry
+three_hooks_entries = []
+
+three_hooks_lines : List ℕ
+three_hooks_lines =
+    codes "0 D 1\n" ++
+    codes "1 C 1 tk_def_int 0\n" ++
+    codes "2 C 1 tk_def_ssy 0\n" ++
+    codes "3 C 1 tk_cre_tsk 2\n" ++
+    codes "4 C 1 td_hok_svc E_PAR\n" ++
+    codes "5 C 1 td_hok_dsp E_PAR\n" ++
+    codes "6 C 1 td_hok_int E_PAR\n" ++
+    codes "7 C 1 td_hok_dsp 0\n" ++
+    codes "8 C 1 td_hok_svc 0\n" ++
+    codes "9 O svc 1 tk_sta_tsk\n" ++
+    codes "9 C 1 tk_sta_tsk 0\n" ++
+    codes "9 O dsp 2\n" ++
+    codes "9 D 2\n" ++
+    codes "10 O svc 2 tk_slp_tsk\n" ++
+    codes "10 B 2 tk_slp_tsk\n" ++
+    codes "10 O dsp 1\n" ++
+    codes "10 D 1\n" ++
+    codes "12 O svc 1 td_hok_svc\n" ++
+    codes "12 C 1 td_hok_svc 0\n" ++
+    codes "13 C 1 td_hok_int 0\n" ++
+    codes "14 C 1 td_hok_svc 0\n" ++
+    codes "15 O svc 1 svc\n" ++
+    codes "15 C 1 svc 3\n" ++
+    codes "16 O int int 1\n" ++
+    codes "16 I int 1\n" ++
+    codes "17 O svc 0 td_hok_int\n" ++
+    codes "17 C 0 td_hok_int 0\n" ++
+    codes "18 O svc 0 tk_slp_tsk\n" ++
+    codes "18 C 0 tk_slp_tsk E_CTX\n" ++
+    codes "20 O svc 1 tk_slp_tsk\n" ++
+    codes "20 C 1 tk_slp_tsk E_TMOUT\n" ++
+    codes "21 O svc 1 tk_ext_tsk\n" ++
+    codes "21 C 1 tk_ext_tsk 0\n" ++
+    codes "21 O dsp 0\n" ++
+    codes "21 D 0\n" ++
+    codes "22 K 1\n" ++
+    codes "23 K 2\n" ++
+    codes "23 W 2 tk_slp_tsk E_TMOUT\n" ++
+    codes "23 O dsp 2\n" ++
+    codes "23 D 2\n" ++
+    codes "24 O svc 2 tk_ext_tsk\n" ++
+    codes "24 C 2 tk_ext_tsk 0\n" ++
+    codes "24 O dsp 0\n" ++
+    codes "24 D 0\n" ++
+    codes "24 END idle\n" ++
+    []
+
+three_hooks_run : text_of_lines (lines_of (trace three_hooks_script modes.Free 100000 three_hooks_entries)) ≡ three_hooks_lines
+unfolding three_hooks_script three_hooks_entries three_hooks_lines text_of form_of named made task_call_name sem_flag_call_name mutex_call_name mail_call_name pool_call_name time_call_name context_call_name device_call_name hook_call_name name_of code_of error_text coded error_named attributes_of flag_mode_of open_mode_of suspend_mode_of is_name_byte name_at_most why_text value_text words_of text_of_line text_of_lines fetch give call_before create_sem create_flag end_first delete_sem delete_flag refer_sem refer_flag signal_sem set_flag clear_flag wait_sem wait_flag sem_flag_call serve_sem serve_flag first_served serve_sem_flag sem_trial flag_trial chosen free_task create_task delete_task start_task exit_task terminate_task change_priority rotate_ready get_task refer_task sleep delay wake_up cancel_wakeups release_wait suspend_task resume_task task_call mark_of allowed free_from first_serving serve_box serve_mailboxes serve_buffer serve_buffers post create_box delete_box send_box receive_box refer_box create_buffer delete_buffer send_buffer receive_buffer refer_buffer mail_call create_mutex lock_mutex unlock_mutex refer_mutex delete_mutex mutex_call change_priority_beside task_call_beside chain_has current_of resettle free_last ceiling_allows serve_mutex serve_mutexes create_fixed delete_fixed get_fixed release_fixed refer_fixed create_variable delete_variable get_variable release_variable refer_variable pool_call first_free serve_fixed serve_fixed_pools serve_variable serve_variable_pools set_time get_time get_operating_time create_cyclic start_cyclic stop_cyclic delete_cyclic refer_cyclic create_alarm start_alarm stop_alarm delete_alarm refer_alarm time_call body_of next_due again define_handler disable_dispatch enable_dispatch disable_interrupts enable_interrupts refer_system define_service refer_service enter_service context_call left list_existing list_ready list_queue set_hook hook_call open_device refer_device request request_whole wait_ending close_device suspend_devices device_call expected arrive hand_over hand_first messages emptied read_bytes write_bytes accept picked serve_acceptance serve_acceptances serve_ending serve_endings is_with_driver serve_close serve_closes serve_suspension events_sent free_descriptor free_request first_queued at_driver accepted dropped handed asked devices_start block is_last blocks unit cut may_cut arrived entered returned body_returned family_call answered called follow_release follow_each with_releases dispatched followed insert_once with_requests handler_begun due_begun interrupt_begun served_within settle freed_within fallen due_done tick state_after worked counted step sync_runs sync_run entered_2 runs start trace acted ran turn_of done_turn first_serving_2 serve_object state_start digits
+three_hooks_run = refl

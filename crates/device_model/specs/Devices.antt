@@ -8,3 +8,4 @@ pub mod Suspension
 pub mod Servings
 pub mod Calls
 pub mod Orders
+pub mod MoveProofs

@@ -14,7 +14,7 @@ use Rattle.device_model.specs.Devices.Handing.{hand_over, handed_all, handed_unl
 -- ---- what a hand over leaves
 
 -- the number of devices
-set_length : {A : Type 0} → (xs : List A) (i : ℕ) (y : A) → length (slice_set xs i y) ≡ length xs
+pub set_length : {A : Type 0} → (xs : List A) (i : ℕ) (y : A) → length (slice_set xs i y) ≡ length xs
 set_length [] i y = refl
 set_length (x ∷ xs) zero y = refl
 set_length (x ∷ xs) (suc i) y = ap (λ n. suc n) (set_length xs i y)
@@ -38,7 +38,7 @@ link_many : (dv : Devices) (d : ℕ) (slot : Option Link) → AsMany dv (handed_
 link_many dv d None = refl
 link_many dv d (Some link) = given_many dv d link link.given
 
-handed_many : (dv : Devices) (d : ℕ) → AsMany dv (handed dv d)
+pub handed_many : (dv : Devices) (d : ℕ) → AsMany dv (handed dv d)
 unfolding handed
 handed_many dv d = link_many dv d (link_at dv d)
 

@@ -6,3 +6,10 @@ pub mod DeviceServings
 pub mod Servings
 pub mod Handing
 pub mod Settling
+pub mod HandingServes
+pub mod HandedTwice
+pub mod FewDevices
+pub mod Walk
+pub mod Unserved
+pub mod Rest
+pub mod Reached

@@ -5,6 +5,7 @@ pub mod Chains
 pub mod Freed
 pub mod Heirs
 pub mod Least
+pub mod Owners
 pub mod Places
 pub mod Refusals
 pub mod Resettled

@@ -140,16 +140,16 @@ made_in_order m id k is some free none =
 -- ---- the free ID
 
 -- an ID of a free slot, or 0
-record IsFree {A : Type 0} (from : ℕ) (slots : List (Option A)) (id : ℕ) : Type 0 where
-  place : ℕ
-  at : id ≡ from + place
-  free : entry slots place ≡ None
+pub record IsFree {A : Type 0} (from : ℕ) (slots : List (Option A)) (id : ℕ) : Type 0 where
+  pub place : ℕ
+  pub at : id ≡ from + place
+  pub free : entry slots place ≡ None
 
 free_later : {A : Type 0} → (from id : ℕ) (slot : Option A) (slots : List (Option A)) → (id ≡ 0) ⊎ IsFree (from + 1) slots id → (id ≡ 0) ⊎ IsFree from (slot ∷ slots) id
 free_later from id slot slots (inl none) = inl none
 free_later from id slot slots (inr is) = inr (record { place = suc is.place; at = let at = is.at in omega (arith, at); free = is.free })
 
-free_is : {A : Type 0} → (from : ℕ) (slots : List (Option A)) → (free_from from slots ≡ 0) ⊎ IsFree from slots (free_from from slots)
+pub free_is : {A : Type 0} → (from : ℕ) (slots : List (Option A)) → (free_from from slots ≡ 0) ⊎ IsFree from slots (free_from from slots)
 unfolding free_from
 free_is from [] = inl refl
 free_is from (None ∷ slots) = inr (record { place = 0; at = omega arith; free = refl })
@@ -159,7 +159,7 @@ behind_zero : {A : Type 0} → (slots : List (Option A)) (place id : ℕ) → id
 behind_zero [] place id at free = refl
 behind_zero (slot ∷ slots) place id at free = let e : id ≡ suc place = omega (arith, at) in ap (entry (slot ∷ slots)) e ∙ free
 
-free_slot : (m : Mutexes) → (Calls.free_mutex m ≡ 0) ⊎ IsFree 1 (drop 1 m.table) (Calls.free_mutex m) → (Calls.free_mutex m ≡ 0 → ⊥) → mutex_at m (Calls.free_mutex m) ≡ None
+pub free_slot : (m : Mutexes) → (Calls.free_mutex m ≡ 0) ⊎ IsFree 1 (drop 1 m.table) (Calls.free_mutex m) → (Calls.free_mutex m ≡ 0 → ⊥) → mutex_at m (Calls.free_mutex m) ≡ None
 free_slot m (inl none) some = absurd (some none)
 free_slot m (inr is) some = behind_zero m.table is.place (Calls.free_mutex m) is.at is.free
 

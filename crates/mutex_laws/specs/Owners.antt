@@ -1,9 +1,13 @@
 -- What serving a mutex, freeing one, and a ceiling mean, in the words of the subject.
 use Rattle.std.specs.Prelude.{ℕ, ◌+◌, ◌≡◌, ◌≤◌, ◌<◌, ◌⊎◌, pos, List, [], ◌∷◌, ◌++◌, None, Some}
+use Rattle.tk_types.specs.declared.answer.Who.{Who}
+use Rattle.tk_types.specs.declared.calls.MutexCall.{MutexCall}
+use Rattle.tk_types.specs.declared.calls.MutexCall.TheVariants.{DelMtx, UnlMtx}
 use Rattle.kernel_model.specs.LawWords.Once.{times}
 use Rattle.kernel_model.specs.LawWords.Waiters.{waiting_count}
-use Rattle.kernel_model.specs.Words.Checks.{plain}
+use Rattle.kernel_model.specs.Words.Checks.{natural, plain}
 use Rattle.kernel_model.specs.Words.Orders.{without}
+use Rattle.kernel_model.specs.Tasks.Calls.{caller}
 use Rattle.kernel_model.specs.Tasks.Base.{Base, release}
 use Rattle.object_model.specs.declared.mutexes.Mutex.{Mutex}
 use Rattle.object_model.specs.Mutexes.Tables.{MutexParts, Mutexes, awaited, ceiling_of, held, locked, mutex_at, mutex_waiters, owner_of, serve_mutex}
@@ -52,3 +56,9 @@ pub record IsAboveCeiling (b : Base) (m : Mutexes) (t priority : ℕ) : Type 0 w
   pub concerns : HoldsOrAwaits b m t id
   pub has : ceiling_of m id ≡ Some ceiling
   pub above : priority < ceiling
+
+-- a call by which a mutex leaves its owner: the owner unlocks it, or it is deleted
+abbrev pub GivesUp : Who → MutexCall → ℕ → ℕ → Type 0
+GivesUp who (UnlMtx number) id owner = (natural number ≡ id) × (caller who ≡ owner)
+GivesUp who (DelMtx number) id owner = natural number ≡ id
+GivesUp who _ id owner = ⊥

@@ -23,7 +23,7 @@ ghost use Rattle.object_model.specs.Mutexes.Calls.{mutex_call, task_call_beside,
 ghost use Rattle.object_model.specs.Mutexes.Priority.{chain_has, current_of, is_alive, next_in_chain, own, resettle};
 ghost use Rattle.object_model.specs.Mutexes.Tables.{MutexParts, Mutexes, awaited, ceiling_allows, ceiling_of, free_last, held, locked, mutex_at, mutex_object, mutex_waiters, mutexes_start, owner_of, serve_mutex, serve_mutexes};
 ghost use Rattle.mutex_laws.specs.Chains.{InChain, IsLeast, IsOwn, WaitsForHeir, is_stale};
-ghost use Rattle.mutex_laws.specs.Owners.{HoldsOrAwaits, IsAboveCeiling, IsFirstServed, IsLastFreed, IsServed};
+ghost use Rattle.mutex_laws.specs.Owners.{GivesUp, HoldsOrAwaits, IsAboveCeiling, IsFirstServed, IsLastFreed, IsServed};
 ghost use Rattle.mutex_laws.specs.Tables.{AreInOrder, IsCaller};
 ghost use Rattle.mutex_laws.specs.Trial.{mutex_trial};
 
@@ -78,6 +78,17 @@ pub fn a_free_mutex_goes_to_the_first_of_its_queue()
         serve_mutex b m id ≡ Some (record { base = release b t (plain (pos 0)); table = locked m id k t }) }
     ensures first { (b : Base) (m : Mutexes) (parts : MutexParts) → serve_mutexes b m ≡ Some parts → IsFirstServed b m parts }
     ensures none { (b : Base) (m : Mutexes) (id : ℕ) → serve_mutexes b m ≡ None → 1 ≤ id → serve_mutex b m id ≡ None }
+{}
+
+/// Nobody takes a mutex from its owner: a call leaves it with the task that owns it, unless that one unlocks it or it is deleted;
+/// so does a serving; and what a task frees as it ends leaves every other task its own.
+pub fn nobody_takes_a_mutex_from_its_owner()
+    ensures call { (b : Base) (m : Mutexes) (who : Who) (call : MutexCall) (id : ℕ) → (owner_of m id ≡ 0 → ⊥) →
+        (owner_of (mutex_call b m who call).table id ≡ owner_of m id) ⊎ GivesUp who call id (owner_of m id) }
+    ensures serving { (b : Base) (m : Mutexes) (number id : ℕ) (parts : MutexParts) → serve_mutex b m number ≡ Some parts →
+        (owner_of m id ≡ 0 → ⊥) → owner_of parts.table id ≡ owner_of m id }
+    ensures freeing { (b : Base) (m : Mutexes) (t id : ℕ) (now : Mutexes) → free_last b m t ≡ Some now →
+        (owner_of m id ≡ t → ⊥) → owner_of now id ≡ owner_of m id }
 {}
 
 /// Of the mutexes that a task holds the one that it locked last is freed, and nothing else changes; where none is freed, the

@@ -2,8 +2,9 @@
 
 use tk_types::Order;
 
-/// A mutex: how its waiters queue, whether its owner inherits the priority of those who wait for it, the highest priority that
-/// its owners may have by themselves and that an owner gets, where it has such a ceiling, and the task that owns it, 0 for none.
+/// A mutex: how its waiters queue, whether its owner inherits the priorities of those that wait for it, its ceiling, where it
+/// has one, which no task that locks it may be above by its base priority and which its owner gets, and the task that owns it,
+/// or 0.
 #[derive(Clone, Copy, Debug, PartialEq, Eq)]
 pub struct Mutex {
     pub order: Order,

@@ -4,3 +4,6 @@ pub mod Freeing
 pub mod Blocks
 pub mod Waits
 pub mod Refusals
+pub mod Trial
+pub mod Apart
+pub mod Wishes

@@ -1,52 +1,19 @@
 -- A serving of a pool ends one wait.
-use Rattle.std.proofs.Common.{◌≡◌, ℕ, zero, suc, ◌+◌, ◌⊎◌, inl, inr, Bool, true, false, cond, List, [], ◌∷◌, Option, Some, None, refl, ◌∙◌, ap, sym, arith}
-use Rattle.std.specs.Option.{option_or}
-use Rattle.std.specs.Bool.{◌==◌}
-use Rattle.std.proofs.lemmas.Bool.Decides.{nat_tests}
+use Rattle.std.proofs.Common.{◌≡◌, ℕ, zero, suc, ◌+◌, List, [], ◌∷◌, Option, Some, None, refl, ◌∙◌, ap}
 use Rattle.tk_types.specs.declared.answer.Answer.{Answer}
 use Rattle.tk_types.specs.declared.task.Order.{Order}
-use Rattle.kernel_model.specs.LawWords.Once.{times}
 use Rattle.kernel_model.specs.LawWords.Waiters.{waiting_count}
-use Rattle.kernel_model.specs.Tasks.Base.{Base, waits_for, queue, release}
+use Rattle.kernel_model.specs.Tasks.Base.{Base, queue, release}
 use Rattle.kernel_lemmas.proofs.Releases.{release_ends_one}
-use Rattle.call_lemmas.proofs.Serving.{queue_absent, waits_for_waits}
-use Rattle.object_model.specs.Servings.{first_serving}
+use Rattle.call_lemmas.proofs.Serving.{waits_for_waits}
+use Rattle.mail_laws.proofs.Waits.{first_waits, of_first}
 use Rattle.object_model.specs.Pools.Tables.{PoolParts, FixedPool, VariablePool, fixed_object, variable_object, fixed_at, variable_at, size_of}
 use Rattle.object_model.specs.Pools.Fixed.{serve_fixed, serve_fixed_at, fixed_serves, serve_fixed_pools, free_block, fixed_waiters}
 use Rattle.object_model.specs.Pools.Variable.{serve_variable, serve_variable_at, variable_serves, block_given, serve_variable_pools, place_in, variable_waiters}
 
--- ---- who stands first
-
-stands_once : (t : ℕ) (ts : List ℕ) → times t (t ∷ ts) ≡ 0 → ⊥
-stands_once t ts none = let itself : (t == t) ≡ true = grind (arith, nat_tests) in let counted : cond (t == t) 1 0 + times t ts ≡ 0 = none in let one : 1 + times t ts ≡ 0 = rw itself at counted in absurd (omega (arith, one))
-
-waits_if : (b : Base) (object t : ℕ) (test : Bool) → waits_for b object t ≡ test → (waits_for b object t ≡ false → ⊥) → waits_for b object t ≡ true
-waits_if b object t true is stands = is
-waits_if b object t false is stands = absurd (stands is)
-
--- the first of a queue waits
-pub first_waits : (order : Order) (b : Base) (object t : ℕ) (ts : List ℕ) → queue order b object ≡ t ∷ ts → waits_for b object t ≡ true
-first_waits order b object t ts is = waits_if b object t (waits_for b object t) refl
-    (λ idle. stands_once t ts (ap (times t) (sym is) ∙ queue_absent order b t object idle))
-
--- so its release ends one wait
+-- the release of the first of a queue ends one wait
 pub first_ends : (order : Order) (b : Base) (object t : ℕ) (ts : List ℕ) (result : Answer) → queue order b object ≡ t ∷ ts → waiting_count b ≡ waiting_count (release b t result) + 1
 first_ends order b object t ts result is = release_ends_one b t result (waits_for_waits b t object (first_waits order b object t ts is))
-
--- ---- the first object that serves
-
-or_cases : {A : Type 0} → (o later : Option A) (x : A) → option_or o later ≡ Some x → (o ≡ Some x) ⊎ (later ≡ Some x)
-or_cases None later x is = inr is
-or_cases (Some y) later x is = inl is
-
--- what holds of each serving holds of that of the first object that can serve
-pub of_first : {A : Type 0} → (P : A → Type 0) (serve : ℕ → Option A) (ids : List ℕ) (x : A) → ((id : ℕ) → serve id ≡ Some x → P x) → first_serving serve ids ≡ Some x → P x
-unfolding first_serving
-of_first P serve [] x each is = absurd (cc is)
-of_first P serve (id ∷ ids) x each is = elim (or_cases (serve id) (first_serving serve ids) x is) [
-  | inl here ↦ each id here
-  | inr later ↦ of_first P serve ids x each later
-]
 
 -- ---- pools
 

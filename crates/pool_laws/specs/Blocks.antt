@@ -1,7 +1,8 @@
 -- The live blocks of a variable pool, in other words.
-use Rattle.std.specs.Prelude.{ℕ, ◌+◌, ◌≤◌, ◌<◌, ◌⊎◌, List, [], ◌∷◌}
+use Rattle.std.specs.Prelude.{ℕ, ◌≡◌, ◌+◌, ◌≤◌, ◌<◌, ◌⊎◌, true, List, [], ◌∷◌, Option, Some, None}
+use Rattle.kernel_model.specs.Tasks.Base.{waits_for}
 use Rattle.object_model.specs.declared.pools.Block.{Block}
-use Rattle.object_model.specs.Pools.Tables.{VariablePool}
+use Rattle.object_model.specs.Pools.Tables.{VariablePool, Pools, PoolParts, variable_object, variable_at, size_of}
 use Rattle.object_model.specs.Pools.Variable.{end_of}
 
 -- blocks lie one behind the other between a start and an end, and none is empty
@@ -22,3 +23,15 @@ pub record Fit (k : VariablePool) (offset n : ℕ) : Type 0 where
 -- the live blocks of a pool lie inside it, one behind the other
 abbrev pub LieApart : VariablePool → Type 0
 LieApart k = LieBetween 0 k.size k.blocks
+
+-- so it is in each variable pool that there is
+abbrev pub LieApartIn : Option VariablePool → Type 0
+LieApartIn None = Unit {0}
+LieApartIn (Some k) = LieApart k
+
+abbrev pub AllLieApart : Pools → Type 0
+AllLieApart m = (id : ℕ) → LieApartIn (variable_at m id)
+
+-- each task that waits for a variable pool asks for some bytes
+abbrev pub AskForSome : PoolParts → Type 0
+AskForSome p = (id t : ℕ) → 1 ≤ id → waits_for p.base (variable_object id) t ≡ true → 0 < size_of p.table t

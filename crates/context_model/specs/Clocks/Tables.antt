@@ -87,7 +87,7 @@ unset b what = record b { events = without_event what b.events }
 abbrev pub set_for : Base → ℕ → Event → Base
 set_for b time what = add_event (unset b what) time what
 
--- the least time behind now that is a whole number of periods behind the first one, or the first one itself
+-- the first time, where that is still to come; else the least one later than now that lies a whole number of periods behind it
 unfoldable pub next_due : ℕ → ℕ → ℕ → ℕ
 next_due first period now = if nat_lt now first then first else first + ((now - first) / period + 1) * period
 

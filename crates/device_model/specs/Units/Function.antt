@@ -1,6 +1,6 @@
 -- What a unit does with a request: the store that it leaves, how many bytes are moved, the error, and the bytes read. One
 -- rule for all kinds; they differ in what there is to move, in whether a write appends, and in which request fails.
-use Rattle.std.specs.Prelude.{ℕ, ◌+◌, ◌-◌, ◌%◌, ◌==◌, Bool, ◌&&◌, ◌||◌, nat_lt, if◌then◌else◌, min, List, [], ◌++◌, length, take, drop}
+use Rattle.std.specs.Prelude.{◌≡◌, true, ℕ, ◌+◌, ◌-◌, ◌%◌, ◌==◌, Bool, ◌&&◌, ◌||◌, nat_lt, if◌then◌else◌, min, List, [], ◌++◌, length, take, drop}
 use Rattle.tk_types.specs.declared.error_code.Er.{Er}
 use Rattle.tk_types.specs.declared.error_code.Er.TheVariants as er
 use Rattle.tk_types.specs.declared.script.Kind.{Kind}
@@ -13,6 +13,10 @@ pub record Served : Type 0 where
   pub size : ℕ
   pub error : Er
   pub content : List ℕ  -- the bytes that were read
+
+-- a write has as many bytes as its size
+pub record IsWhole (request : Request) : Type 0 where
+  pub size : request.write ≡ true → length request.bytes ≡ request.size
 
 -- a request of some size counts once it is begun
 abbrev pub begin : Store → Request → Store
