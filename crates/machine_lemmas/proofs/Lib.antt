@@ -13,3 +13,4 @@ pub mod Walk
 pub mod Unserved
 pub mod Rest
 pub mod Reached
+pub mod Pending
