@@ -14,3 +14,4 @@ pub mod Unserved
 pub mod Rest
 pub mod Reached
 pub mod Pending
+pub mod KeptOnce
