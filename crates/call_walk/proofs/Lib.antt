@@ -1,6 +1,9 @@
 pub mod BaseMoves
 pub mod ContextCalls
+pub mod DeviceCalls
+pub mod MailCalls
 pub mod MutexCalls
+pub mod PoolCalls
 pub mod SemFlagCalls
 pub mod TaskCalls
 pub mod TimeCalls
