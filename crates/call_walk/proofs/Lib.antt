@@ -5,5 +5,6 @@ pub mod MailCalls
 pub mod MutexCalls
 pub mod PoolCalls
 pub mod SemFlagCalls
+pub mod Slots
 pub mod TaskCalls
 pub mod TimeCalls
