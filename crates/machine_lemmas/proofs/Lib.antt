@@ -15,3 +15,4 @@ pub mod Rest
 pub mod Reached
 pub mod Pending
 pub mod KeptOnce
+pub mod BaseKept
