@@ -30,11 +30,11 @@ dropped_in t event first rest true is more = dropped_if event (without_wait t (f
 dropped_in t event first rest false is more = ap (λ kept. cond (not (ends_wait_of t first)) (first ∷ kept) kept) more
 
 -- the end of a wait that was set is dropped with the wait
-dropped : (t : ℕ) (event : DueEvent) (events : List DueEvent) → ends_wait_of t event ≡ true → without_wait t (insert_event event events) ≡ without_wait t events
+pub dropped : (t : ℕ) (event : DueEvent) (events : List DueEvent) → ends_wait_of t event ≡ true → without_wait t (insert_event event events) ≡ without_wait t events
 dropped t event [] is = dropped_if event [] (ends_wait_of t event) is
 dropped t event (first ∷ rest) is = dropped_in t event first rest (nat_lt event.time first.time) is (dropped t event rest is)
 
-rewritten : {A : Type 0} → (xs : List (Option A)) (i : ℕ) (first second : Option A) → slice_set (slice_set (slice_set xs i first) i second) i (entry xs i) ≡ xs
+pub rewritten : {A : Type 0} → (xs : List (Option A)) (i : ℕ) (first second : Option A) → slice_set (slice_set (slice_set xs i first) i second) i (entry xs i) ≡ xs
 rewritten [] i first second = refl
 rewritten (x ∷ xs) zero first second = refl
 rewritten (x ∷ xs) (suc i) first second = ap (λ rest. x ∷ rest) (rewritten xs i first second)

@@ -7,3 +7,6 @@ pub mod Room
 pub mod Turns
 pub mod Backs
 pub mod Trial
+pub mod Marks
+pub mod Returns
+pub mod BufferTrials

@@ -2,3 +2,4 @@ pub mod Flows
 pub mod Rooms
 pub mod Turns
 pub mod Trial
+pub mod BufferTrial

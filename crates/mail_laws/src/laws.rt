@@ -10,11 +10,12 @@ ghost use Rattle.tk_types.specs.declared.calls.MailCall.{MailCall};
 ghost use Rattle.kernel_model.specs.LawWords.Waiters.{waiting_count};
 ghost use Rattle.kernel_model.specs.SemFlags.Trial.{MayWait};
 ghost use Rattle.object_model.specs.declared.mails.Message.{Message};
-ghost use Rattle.object_model.specs.Mails.Tables.{Mailbox, MailParts, box_at, buffer_at, mails_start};
+ghost use Rattle.object_model.specs.Mails.Tables.{Mailbox, MailParts, MessageBuffer, box_at, buffer_at, mails_start};
 ghost use Rattle.object_model.specs.Mails.Bytes.{bytes_at, with_bytes};
 ghost use Rattle.object_model.specs.Mails.Boxes.{by_priority, put_in, serve_box, serve_mailboxes};
-ghost use Rattle.object_model.specs.Mails.Buffers.{post, serve_buffers};
-ghost use Rattle.object_model.specs.Mails.Calls.{mail_call, mail_done, received_from_box, received_from_buffer};
+ghost use Rattle.object_model.specs.Mails.Buffers.{post, serve_buffer, serve_buffers};
+ghost use Rattle.object_model.specs.Mails.Calls.{mail_call, mail_done, received_from_box, received_from_buffer, sent_to_buffer};
+ghost use Rattle.mail_laws.specs.BufferTrial.{MayTry, receive_trial, send_trial};
 ghost use Rattle.mail_laws.specs.Flows.{IsFlow, Receive, Step, TellsLength, after, after_all, flow_of, flow_of_all, messages_at, place_of_step, written};
 ghost use Rattle.mail_laws.specs.Rooms.{HaveRoom};
 ghost use Rattle.mail_laws.specs.Trial.{box_trial};
@@ -97,4 +98,15 @@ pub fn a_serving_ends_a_wait()
 pub fn a_call_for_a_mailbox_is_its_trial()
     ensures { (p : MailParts) (t id : ℕ) (timeout : ℤ) (k : Mailbox) → MayWait p.base t → box_at p.table id ≡ Some k →
         serve_box p id ≡ None → received_from_box p t id timeout (Some k) ≡ box_trial p t id timeout k }
+{}
+
+/// A send to a message buffer, and a receive from one, are their trials: what the buffer decides for its caller is what comes of it
+/// when the caller joins the senders or the receivers and the buffer serves once, if it can, whether another task's wait ends
+/// with it or not. The caller is ready and has a place in the table of what tasks ask for, no release is left to take, and
+/// before the call the buffer could serve nobody.
+pub fn a_call_for_a_message_buffer_is_its_trial()
+    ensures send { (p : MailParts) (t id : ℕ) (bytes : List ℕ) (timeout : ℤ) (k : MessageBuffer) → MayTry p.base t → buffer_at p.table id ≡ Some k →
+        t < length p.table.sending → serve_buffer p id ≡ None → sent_to_buffer p t id bytes timeout (Some k) ≡ send_trial p t id bytes timeout k }
+    ensures receive { (p : MailParts) (t id address : ℕ) (timeout : ℤ) (k : MessageBuffer) → MayTry p.base t → buffer_at p.table id ≡ Some k →
+        t < length p.table.into → serve_buffer p id ≡ None → received_from_buffer p t id address timeout (Some k) ≡ receive_trial p t id address timeout }
 {}
