@@ -5,3 +5,4 @@ pub mod Lives
 pub mod Stays
 pub mod Claims
 pub mod Aborts
+pub mod Handing

@@ -22,7 +22,7 @@ ghost use Rattle.device_model.specs.Devices.MoveProofs.{is_abort};
 ghost use Rattle.device_laws.specs.Claims.{HandsOut, Serves};
 ghost use Rattle.device_laws.specs.Moves.{Leads, LeadsIfAny, Move, all_moved, asks, lets_go};
 ghost use Rattle.device_laws.specs.Requests.{AreApart, IsGone, IsThere, NoneAborted, StaysSo, is_asked};
-ghost use Rattle.device_laws.specs.Words.{may_answer_for_buffer};
+ghost use Rattle.device_laws.specs.Words.{NobodyIsServed, may_answer_for_buffer};
 
 /// All that is done to devices is a list of nine moves, each of which changes nothing where it can't be done: by every call,
 /// each kind of serving, when requests go to drivers, and when an ending arrives.
@@ -77,4 +77,11 @@ pub fn an_ending_is_handed_out_to_whom_it_belongs()
         (device_call p who (call.WaiDev descriptor named timeout)).outcome ≡ Returned answer → is_negative answer.value ≡ false →
         HandsOut p (natural descriptor) (natural named) answer (device_call p who (call.WaiDev descriptor named timeout)).parts }
     ensures serving { (p after : DevParts) → serve_endings p ≡ Some after → (dd : ℕ) × Serves p dd after }
+{}
+
+/// Requests that go to drivers leave nobody to serve: where nobody could be served before, nobody can be after it. So it is
+/// enough that they go once all is settled.
+pub fn handing_over_leaves_nobody_to_serve()
+    ensures free { (p : DevParts) (b : Base) → NobodyIsServed p → NobodyIsServed (record p { table = hand_over b p.table }) }
+    ensures sync { (p : DevParts) → NobodyIsServed p → NobodyIsServed (record p { table = hand_first p.table }) }
 {}
