@@ -6,3 +6,5 @@ pub mod Stays
 pub mod Claims
 pub mod Aborts
 pub mod Handing
+pub mod Fits
+pub mod Ties
