@@ -1,1 +1,4 @@
 -- System time, cyclic and alarm handlers.
+pub mod Tables
+pub mod Calls
+pub mod Phases

@@ -3,4 +3,5 @@
 #![tactic(auto)]
 
 pub mod mails;
+pub mod mutexes;
 pub mod pools;

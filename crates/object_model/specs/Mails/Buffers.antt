@@ -78,11 +78,13 @@ serve_buffers p = first_serving (serve_buffer p) (taken_from 1 (drop 1 p.table.b
 
 -- ---- sending at once
 
--- a message that needn't wait: it goes to the first receiver, or into the buffer, where it fits and its sender would be
--- the first
-abbrev pub sent_at_once : MailParts → ℕ → MessageBuffer → Bool → Option ℕ → List ℕ → Option MailParts
-sent_at_once p id k is_first (Some receiver) bytes = Some (delivered p receiver bytes)
-sent_at_once p id k is_first None bytes = if is_first && has_space k bytes then Some (message_stored p id k bytes) else None
+-- a message that needn't wait, where its sender would be the first: it goes to the first receiver, unless that has an
+-- older one to take, or where nobody receives into the buffer, if it fits
+abbrev pub sent_at_once : MailParts → ℕ → MessageBuffer → Bool → Option ℕ → List (List ℕ) → List ℕ → Option MailParts
+sent_at_once p id k false receiver messages bytes = None
+sent_at_once p id k true (Some receiver) (oldest ∷ later) bytes = None
+sent_at_once p id k true (Some receiver) [] bytes = Some (delivered p receiver bytes)
+sent_at_once p id k true None messages bytes = if has_space k bytes then Some (message_stored p id k bytes) else None
 
 -- whether a buffer takes messages of a length
 abbrev pub takes_length : ℕ → MessageBuffer → Bool
@@ -97,7 +99,7 @@ abbrev pub posted : MailParts → ℕ → List ℕ → Option MessageBuffer → 
 posted p id bytes None = None
 posted p id bytes (Some k) =
     if takes_length (length bytes) k
-    then sent_at_once p id k (none_waits (senders p.base k id)) (first_of (receivers p.base id)) bytes
+    then sent_at_once p id k (none_waits (senders p.base k id)) (first_of (receivers p.base id)) k.messages bytes
     else None
 
 -- bytes are sent to a message buffer from the kernel itself, as by `tk_snd_mbf` with a time-out of 0, behind all senders

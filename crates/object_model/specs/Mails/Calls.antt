@@ -213,7 +213,7 @@ sent_or_waits p t id k timeout bytes None = waits_or_ends p t (senders_object id
 abbrev pub sent_to_buffer : MailParts → ℕ → ℕ → List ℕ → ℤ → Option MessageBuffer → MailDone
 sent_to_buffer p t id bytes timeout None = mail_done p (failed er.NoExs)
 sent_to_buffer p t id bytes timeout (Some k) = sent_or_waits p t id k timeout bytes
-    (sent_at_once p id k (would_be_first k.order p.base t (senders p.base k id)) (first_of (receivers p.base id)) bytes)
+    (sent_at_once p id k (would_be_first k.order p.base t (senders p.base k id)) (first_of (receivers p.base id)) k.messages bytes)
 
 -- whether a run of so many bytes from an address on lies inside the script's memory
 abbrev pub is_inside : ℤ → ℤ → Bool

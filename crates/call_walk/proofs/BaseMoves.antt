@@ -1,0 +1,88 @@
+-- What holds of the base after every list of moves. A word on the base that each move keeps is kept by all that is made of
+-- them: by every call, and by the changes of priorities in settling.
+use Rattle.std.proofs.Common.{◌≡◌, ℕ, zero, suc, ◌+◌, Bool, true, false, cond, List, [], ◌∷◌, Option, Some, None, ℤ}
+use Rattle.std.specs.Bool.{◌==◌}
+use Rattle.std.specs.Prelude.{filter, length}
+use Rattle.tk_types.specs.declared.answer.Answer.{Answer}
+use Rattle.tk_types.specs.declared.error_code.Er.TheVariants as er
+use Rattle.tk_types.specs.declared.task.DueEvent.{DueEvent}
+use Rattle.tk_types.specs.declared.task.Event.{Event}
+use Rattle.tk_types.specs.declared.task.Flags.{Flags}
+use Rattle.tk_types.specs.declared.task.Order.{Order}
+use Rattle.tk_types.specs.declared.task.Task.{Task}
+use Rattle.tk_types.specs.Codes.{code_of}
+use Rattle.kernel_model.specs.Words.Checks.{plain}
+use Rattle.kernel_model.specs.Words.Orders.{to_back}
+use Rattle.kernel_model.specs.Tasks.Base.{Base, add_event, advance, back_if_any, create, current, delete, give_bytes, make_dormant, make_ready, make_wait, move_wait, queue, ready_of, release, resume, rotate, set_base, set_current, set_flags, set_wakeups, suspend, take_bytes, take_due, task_at, with_entry, with_task}
+use Rattle.kernel_model.specs.Tasks.Calls.{rebased}
+use Rattle.kernel_model.specs.SemFlags.Calls.{end_first, end_waits, first_ended}
+
+-- each move keeps the word
+pub record IsBaseProof (P : Base → Type 0) : Type 0 where
+  -- tasks
+  pub created : (b : Base) (t priority stack : ℕ) → P b → P (create b t priority stack)
+  pub deleted : (b : Base) (t : ℕ) → P b → P (delete b t)
+  pub readied : (b : Base) (t : ℕ) → P b → P (make_ready b t)
+  pub ended : (b : Base) (t : ℕ) → P b → P (make_dormant b t)
+  pub suspended : (b : Base) (t : ℕ) → P b → P (suspend b t)
+  pub resumed : (b : Base) (t : ℕ) (all : Bool) → P b → P (resume b t all)
+  pub based : (b : Base) (t priority : ℕ) → P b → P (set_base b t priority)
+  pub refreshed : (b : Base) (t priority : ℕ) → P b → P (set_current b t priority)
+  pub woken : (b : Base) (t n : ℕ) → P b → P (set_wakeups b t n)
+  -- waits
+  pub waits : (b : Base) (t object : ℕ) (order : Order) (timeout : ℤ) → P b → P (make_wait b t object order timeout)
+  pub moved : (b : Base) (t object : ℕ) (order : Order) → P b → P (move_wait b t object order)
+  pub released : (b : Base) (t : ℕ) (answer : Answer) → P b → P (release b t answer)
+  -- stamps: a task takes the last place
+  pub placed : (b : Base) (t : ℕ) → P b → P (record b { order = to_back t b.order })
+  -- bytes
+  pub taken : (b : Base) (n : ℕ) → P b → P (take_bytes b n)
+  pub given : (b : Base) (n : ℕ) → P b → P (give_bytes b n)
+  -- events: one more, or those alone that pass a test
+  pub added : (b : Base) (time : ℕ) (what : Event) → P b → P (add_event b time what)
+  pub passed : (b : Base) (passes : DueEvent → Bool) → P b → P (record b { events = filter passes b.events })
+  -- time
+  pub advanced : (b : Base) → P b → P (advance b)
+  pub due : (b : Base) → P b → P (take_due b)
+  -- dispatching
+  pub flagged : (b : Base) (flags : Flags) → P b → P (set_flags b flags)
+  pub turned : (b : Base) (cur : Option ℕ) → P b → P (record b { cur = cur })
+  pub emptied : (b : Base) → P b → P (record b { released = [] })
+
+-- ---- what is made of few moves
+
+pub either_base : (P : Base → Type 0) (test : Bool) (one other : Base) → P one → P other → P (cond test one other)
+either_base P true one other first second = first
+either_base P false one other first second = second
+
+back_keeps : (P : Base → Type 0) → IsBaseProof P → (b : Base) (ids : List ℕ) → P b → P (record b { order = back_if_any ids b.order })
+back_keeps P is b [] has = has
+back_keeps P is b (t ∷ ts) has = is.placed b t has
+
+-- a rotation
+pub rotate_keeps : (P : Base → Type 0) → IsBaseProof P → (b : Base) (priority : ℕ) → P b → P (rotate b priority)
+rotate_keeps P is b priority has = back_keeps P is b (ready_of b priority) has
+
+placed_keeps : (P : Base → Type 0) → IsBaseProof P → (b : Base) (t priority : ℕ) (o : Option Task) → P (with_entry o b (λ k. with_task b t (record k { base = priority }))) →
+    P (record (with_entry o b (λ k. with_task b t (record k { base = priority }))) { order = to_back t b.order })
+placed_keeps P is b t priority None has = is.placed b t has
+placed_keeps P is b t priority (Some k) has = is.placed (with_task b t (record k { base = priority })) t has
+
+-- a base priority, with a new stamp where the current one stays
+pub rebased_keeps : (P : Base → Type 0) → IsBaseProof P → (b : Base) (t priority : ℕ) → P b → P (rebased b t priority)
+rebased_keeps P is b t priority has =
+    let now : P (set_base b t priority) = is.based b t priority has in
+    either_base P (current b t == priority) (record (set_base b t priority) { order = to_back t b.order }) (set_base b t priority) (placed_keeps P is b t priority (task_at b t) now) now
+
+first_keeps : (P : Base → Type 0) → IsBaseProof P → (ids : List ℕ) (b : Base) → P b → P (first_ended ids b)
+first_keeps P is [] b has = has
+first_keeps P is (t ∷ ids) b has = is.released b t (plain (code_of er.Dlt)) has
+
+ends_keep : (P : Base → Type 0) → IsBaseProof P → (left : ℕ) (order : Order) (object : ℕ) (b : Base) → P b → P (end_first left order object b)
+unfolding end_first
+ends_keep P is zero order object b has = has
+ends_keep P is (suc left) order object b has = ends_keep P is left order object (first_ended (queue order b object) b) (first_keeps P is (queue order b object) b has)
+
+-- the ends of all waits for an object that is deleted
+pub end_waits_keeps : (P : Base → Type 0) → IsBaseProof P → (order : Order) (object : ℕ) (b : Base) → P b → P (end_waits order object b)
+end_waits_keeps P is order object b has = ends_keep P is (length (queue order b object)) order object b has

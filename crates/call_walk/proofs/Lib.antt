@@ -1,0 +1,10 @@
+pub mod BaseMoves
+pub mod ContextCalls
+pub mod DeviceCalls
+pub mod MailCalls
+pub mod MutexCalls
+pub mod PoolCalls
+pub mod SemFlagCalls
+pub mod Slots
+pub mod TaskCalls
+pub mod TimeCalls

@@ -1,0 +1,16 @@
+pub mod Checked
+pub mod Refusals
+pub mod Phases
+pub mod Sets
+pub mod InPhase
+pub mod Starts
+pub mod SetOnce
+pub mod Lists
+pub mod Existing
+pub mod QueueLists
+pub mod Listings
+pub mod Nesting
+pub mod SystemTime
+pub mod Definitions
+pub mod Touches
+pub mod Later

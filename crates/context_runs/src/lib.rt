@@ -1,0 +1,3 @@
+//! Runs of time, handlers, interrupts, services and hooks, worked out by hand: each a theorem over the definitions. There
+//! is no code.
+#![tactic(auto)]

@@ -1,0 +1,9 @@
+pub mod Closing
+pub mod Entries
+pub mod Journals
+pub mod Opening
+pub mod Places
+pub mod Requests
+pub mod Suspension
+pub mod Sync
+pub mod Units

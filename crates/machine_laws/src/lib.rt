@@ -1,0 +1,4 @@
+//! Laws of the whole machine, which stand beside its definitions. Nothing is built on this crate.
+#![tactic(auto)]
+
+pub mod laws;

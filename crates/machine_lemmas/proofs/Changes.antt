@@ -1,0 +1,83 @@
+-- What a serving does to the base: waits for objects that serve end, or one moves from the acceptance of a request to its
+-- ending, and simulated memory is given back. So what holds through these holds through any serving.
+use Rattle.std.proofs.Common.{◌≡◌, ℕ, ◌+◌, ◌≤◌, Bool, true, false, Option, Some, None, refl, ◌∙◌, ap, sym, subst, arith}
+use Rattle.tk_types.specs.declared.answer.Answer.{Answer}
+use Rattle.tk_types.specs.declared.task.Order.TheVariants.{Fifo}
+use Rattle.kernel_model.specs.Tasks.Base.{Base, give_bytes, move_wait, release, waits_for}
+use Rattle.device_model.specs.Devices.Requests.{acceptance_object, ending_object}
+use Rattle.call_lemmas.proofs.Serving.{waits_for_waits}
+use Rattle.machine_lemmas.specs.Weights.{weight, weight_of}
+use Rattle.machine_lemmas.proofs.Weights.{move_lighter, release_lighter}
+
+-- what something of the base has to survive to survive any serving
+pub record Survives (P : Base → Type 0) : Type 0 where
+  pub released : (b : Base) (t object : ℕ) (answer : Answer) → 64 ≤ object → waits_for b object t ≡ true → P b → P (release b t answer)
+  pub moved : (b : Base) (t d dd : ℕ) → 1 ≤ d → d ≤ 8 → waits_for b (acceptance_object d) t ≡ true → P b → P (move_wait b t (ending_object dd) Fifo)
+  pub given : (b : Base) (n : ℕ) → P b → P (give_bytes b n)
+
+-- a base comes from another by servings, or is that one
+pub record IsChange (b c : Base) : Type 1 where
+  pub keeps : (P : Base → Type 0) → Survives P → P b → P c
+
+-- a base comes from another by servings, the first of which ends or moves a wait
+pub record IsEnding (b c : Base) : Type 1 where
+  pub keeps : (P : Base → Type 0) → Survives P → P b → P c
+  pub lighter : weight c + 1 ≤ weight b
+
+-- ---- changes
+
+pub unchanged : (b : Base) → IsChange b b
+unchanged b = record { keeps = λ P survives has. has }
+
+pub change_then : (b c d : Base) → IsChange b c → IsChange c d → IsChange b d
+change_then b c d first then = record { keeps = λ P survives has. then.keeps P survives (first.keeps P survives has) }
+
+pub releasing : (b : Base) (t object : ℕ) (answer : Answer) → 64 ≤ object → waits_for b object t ≡ true → IsChange b (release b t answer)
+releasing b t object answer above waits = record { keeps = λ P survives has. survives.released b t object answer above waits has }
+
+pub giving : (b : Base) (n : ℕ) → IsChange b (give_bytes b n)
+giving b n = record { keeps = λ P survives has. survives.given b n has }
+
+-- no change makes the waits heavier
+ending_weight : (dd : ℕ) → weight_of (ending_object dd) ≡ 1
+ending_weight dd = grind arith
+
+acceptance_weight : (d : ℕ) → 1 ≤ d → d ≤ 8 → weight_of (acceptance_object d) ≡ 2
+acceptance_weight d least most = grind (arith, least, most)
+
+no_heavier : (n : ℕ) → Survives (λ b. weight b ≤ n)
+no_heavier n = record {
+  released = λ b t object answer above waits most. let lighter = release_lighter b t answer (waits_for_waits b t object waits) in omega (arith, lighter, most);
+  moved = λ b t d dd least greatest waits most.
+      let one = ending_weight dd in
+      let two = acceptance_weight d least greatest in
+      let lighter = move_lighter b t (acceptance_object d) (ending_object dd) Fifo waits (omega (arith, one, two)) in
+      omega (arith, lighter, most);
+  given = λ b n most. most;
+}
+
+pub change_weighs : (b c : Base) → IsChange b c → weight c ≤ weight b
+change_weighs b c change = change.keeps (λ d. weight d ≤ weight b) (no_heavier (weight b)) (omega arith)
+
+-- ---- servings
+
+-- the end of a wait, and what comes behind it
+pub ends_then : (b c : Base) (t object : ℕ) (answer : Answer) → 64 ≤ object → waits_for b object t ≡ true → IsChange (release b t answer) c → IsEnding b c
+ends_then b c t object answer above waits change = record {
+  keeps = λ P survives has. change.keeps P survives (survives.released b t object answer above waits has);
+  lighter = let first = release_lighter b t answer (waits_for_waits b t object waits) in let rest = change_weighs (release b t answer) c change in omega (arith, first, rest);
+}
+
+-- the end of one wait
+pub one_ends : (b : Base) (t object : ℕ) (answer : Answer) → 64 ≤ object → waits_for b object t ≡ true → IsEnding b (release b t answer)
+one_ends b t object answer above waits = ends_then b (release b t answer) t object answer above waits (unchanged (release b t answer))
+
+-- the move of a wait from an acceptance to an ending
+pub one_moves : (b : Base) (t d dd : ℕ) → 1 ≤ d → d ≤ 8 → waits_for b (acceptance_object d) t ≡ true → IsEnding b (move_wait b t (ending_object dd) Fifo)
+one_moves b t d dd least most waits = record {
+  keeps = λ P survives has. survives.moved b t d dd least most waits has;
+  lighter =
+      let one = ending_weight dd in
+      let two = acceptance_weight d least most in
+      move_lighter b t (acceptance_object d) (ending_object dd) Fifo waits (omega (arith, one, two));
+}

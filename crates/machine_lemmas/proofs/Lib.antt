@@ -1,0 +1,17 @@
+pub mod Weights
+pub mod Changes
+pub mod Finding
+pub mod ObjectServings
+pub mod DeviceServings
+pub mod Servings
+pub mod Handing
+pub mod Settling
+pub mod HandingServes
+pub mod HandedTwice
+pub mod FewDevices
+pub mod Walk
+pub mod Unserved
+pub mod Rest
+pub mod Reached
+pub mod Pending
+pub mod KeptOnce

@@ -1,0 +1,98 @@
+-- What every event keeps holds in every state that a machine comes to, where it holds at the start.
+use Rattle.std.proofs.Common.{◌≡◌, ℕ, ◌+◌, Bool, true, false, not, ◌&&◌, ◌||◌, List, [], ◌∷◌, Option, Some, None, refl, subst}
+use Rattle.std.specs.Option.{option_map}
+use Rattle.tk_types.specs.declared.run.Mode.{Mode}
+use Rattle.tk_types.specs.declared.run.Mode.TheVariants as modes
+use Rattle.tk_types.specs.declared.script.Script.{Script}
+use Rattle.kernel_model.specs.Tasks.Base.{chosen}
+use Rattle.kernel_model.specs.Tasks.Views.{is_current}
+use Rattle.device_model.specs.declared.messages.Ending.{Ending}
+use Rattle.device_model.specs.Devices.Endings.{DevParts, arrive}
+use Rattle.device_model.specs.Devices.Handing.{any_given, any_queued}
+use Rattle.machine_model.specs.States.Objects.{Parts, dev_parts, with_devices}
+use Rattle.machine_model.specs.States.State.{State, parts_of, state_start, with_parts}
+use Rattle.machine_model.specs.Events.Follow.{Event, delays, dispatched, turned}
+use Rattle.machine_model.specs.Events.Arrivals.{after_arrival, arrived}
+use Rattle.machine_model.specs.Runs.Step.{any_unfinished, counted, ended_or_went, handed_if, has_event, is_quiet, needed, needed_or, needed_sync, needs_if, step, step_if, went, with_first_handed, worked}
+use Rattle.machine_model.specs.Runs.Trace.{start}
+use Rattle.machine_model.specs.Runs.Reached.{Move, Steps, Arrives, after_move, after_offer, after_pace, state_after}
+use Rattle.machine_lemmas.proofs.Walk.{Has, IsKept, kept_followed, kept_worked}
+
+-- ---- one step
+
+-- what holds where a step is done holds after it, and where an ending is needed, once a request was handed
+went_has : (P : Parts → Type 0) (script : Script) (mode : Mode) (budget : ℕ) (st : State) → Has P (worked script mode (st.steps + 1) st).state → Has P (after_pace st (went script mode budget st))
+unfolding counted
+went_has P script mode budget st has = has
+
+ended_has : (P : Parts → Type 0) (ends : Bool) (script : Script) (mode : Mode) (budget : ℕ) (st : State) → Has P st → Has P (worked script mode (st.steps + 1) st).state → Has P (after_pace st (ended_or_went ends script mode budget st))
+ended_has P true script mode budget st has works = has
+ended_has P false script mode budget st has works = went_has P script mode budget st works
+
+needed_has : (P : Parts → Type 0) (waiting : Option State) (event : Bool) (script : Script) (mode : Mode) (budget : ℕ) (st : State) → ((now : State) → waiting ≡ Some now → Has P now) → Has P st →
+    Has P (worked script mode (st.steps + 1) st).state → Has P (after_pace st (needed_or waiting event script mode budget st))
+needed_has P (Some now) event script mode budget st waits has works = waits now refl
+needed_has P None event script mode budget st waits has works = ended_has P (not event && not (any_unfinished st.objects.devices)) script mode budget st has works
+
+needs_has : (P : Parts → Type 0) (test : Bool) (st now : State) → Has P st → needs_if test st ≡ Some now → Has P now
+needs_has P true st now has is = let e : st ≡ now = cc is in subst (Has P) e has
+needs_has P false st now has is = absurd (cc is)
+
+handed_has : (P : Parts → Type 0) → IsKept P → (test : Bool) (st now : State) → Has P st → handed_if test st ≡ Some now → Has P now
+handed_has P kept true st now has is = let e : with_first_handed st ≡ now = cc is in subst (Has P) e (kept.handed_first (parts_of st) has)
+handed_has P kept false st now has is = absurd (cc is)
+
+sync_has : (P : Parts → Type 0) → IsKept P → (given : Bool) (st now : State) → Has P st → needed_sync given st ≡ Some now → Has P now
+sync_has P kept true st now has is = let e : st ≡ now = cc is in subst (Has P) e has
+sync_has P kept false st now has is = handed_has P kept (any_queued st.objects.devices) st now has is
+
+waiting_has : (P : Parts → Type 0) → IsKept P → (mode : Mode) (event : Bool) (st now : State) → Has P st → needed mode event st ≡ Some now → Has P now
+waiting_has P kept modes.Sync event st now has is = sync_has P kept (any_given st.objects.devices) st now has is
+waiting_has P kept modes.Free event st now has is = needs_has P (not event && any_given st.objects.devices) st now has is
+
+step_cases : (P : Parts → Type 0) → IsKept P → (quiet : Bool) (script : Script) (mode : Mode) (budget : ℕ) (st : State) → Has P st → Has P (worked script mode (st.steps + 1) st).state → Has P (after_pace st (step_if quiet script mode budget st))
+step_cases P kept true script mode budget st has works =
+    let event : Bool = has_event script (st.steps + 1) st in
+    needed_has P (needed mode event st) event script mode budget st (λ now is. waiting_has P kept mode event st now has is) has works
+step_cases P kept false script mode budget st has works = went_has P script mode budget st works
+
+-- what holds of a state, and after a step is done on it, holds after a step, also where nothing is done
+pub step_has : (P : Parts → Type 0) → IsKept P → (script : Script) (mode : Mode) (budget : ℕ) (st : State) → Has P st → Has P (worked script mode (st.steps + 1) st).state → Has P (after_pace st (step script mode budget st))
+unfolding step
+step_has P kept script mode budget st has works = step_cases P kept (is_quiet st) script mode budget st has works
+
+-- ---- one ending
+
+offered : (P : Parts → Type 0) (script : Script) (mode : Mode) (st : State) (e : Ending) (parts : Option DevParts) → arrive (dev_parts (parts_of st)) e ≡ parts → Has P st →
+    ((q : DevParts) → arrive (dev_parts (parts_of st)) e ≡ Some q → Has P (after_arrival script mode (st.steps + 1) st e q).state) → Has P (after_offer st (option_map (after_arrival script mode (st.steps + 1) st e) parts))
+offered P script mode st e None is has comes = has
+offered P script mode st e (Some q) is has comes = comes q is
+
+-- what holds of a state, and after an ending has arrived in it, holds after an ending is offered
+pub offer_has : (P : Parts → Type 0) (script : Script) (mode : Mode) (st : State) (e : Ending) → Has P st →
+    ((q : DevParts) → arrive (dev_parts (parts_of st)) e ≡ Some q → Has P (after_arrival script mode (st.steps + 1) st e q).state) → Has P (after_offer st (arrived script mode st e))
+unfolding arrived
+offer_has P script mode st e has comes = offered P script mode st e (arrive (dev_parts (parts_of st)) e) refl has comes
+
+-- ---- all moves
+
+pub kept_move : (P : Parts → Type 0) → IsKept P → (script : Script) (mode : Mode) (budget : ℕ) (st : State) (move : Move) → Has P st → Has P (after_move script mode budget st move)
+kept_move P kept script mode budget st Steps has = step_has P kept script mode budget st has (kept_worked P kept script mode (st.steps + 1) st has)
+kept_move P kept script mode budget st (Arrives e) has =
+    offer_has P script mode st e has
+    (λ q is. kept_followed P kept script mode (st.steps + 1) (with_parts st (with_devices (parts_of st) q)) (kept.arrived (parts_of st) e q is has))
+
+-- the start is that of the state, and the dispatch of its first task
+turned_start : (P : Parts → Type 0) → ((p : Parts) (cur : Option ℕ) → P p → P (record p { base = record p.base { cur = cur } })) → (same : Bool) (n : ℕ) (st : State) → Has P st → Has P (turned same n st).state
+turned_start P turns true n st has = has
+turned_start P turns false n st has = turns (parts_of st) (Some (chosen st.base)) has
+
+pub start_has : (P : Parts → Type 0) → ((p : Parts) (cur : Option ℕ) → P p → P (record p { base = record p.base { cur = cur } })) → (script : Script) → Has P (state_start script) → Has P (start script).state
+unfolding start dispatched
+start_has P turns script has = turned_start P turns (delays (state_start script) || is_current (chosen (state_start script).base) (state_start script).base.cur) 0 (state_start script) has
+
+-- what every event keeps holds in every state that a machine comes to
+pub reached_has : (P : Parts → Type 0) → IsKept P → (script : Script) (mode : Mode) (budget : ℕ) (moves : List Move) → Has P (state_start script) → Has P (state_after script mode budget moves)
+unfolding state_after
+reached_has P kept script mode budget [] has = start_has P kept.turned script has
+reached_has P kept script mode budget (move ∷ before) has = kept_move P kept script mode budget (state_after script mode budget before) move (reached_has P kept script mode budget before has)

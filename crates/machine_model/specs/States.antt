@@ -1,0 +1,4 @@
+-- What the machine keeps.
+pub mod Objects
+pub mod State
+pub mod Waits

@@ -1,0 +1,9 @@
+pub mod Flows
+pub mod Landing
+pub mod Refusals
+pub mod Waits
+pub mod Keeps
+pub mod Room
+pub mod Turns
+pub mod Backs
+pub mod Trial

@@ -1,0 +1,4 @@
+pub mod Flows
+pub mod Rooms
+pub mod Turns
+pub mod Trial

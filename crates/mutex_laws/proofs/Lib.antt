@@ -1,0 +1,16 @@
+pub mod Alike
+pub mod Backs
+pub mod Ceilings
+pub mod Chains
+pub mod Freed
+pub mod Heirs
+pub mod Least
+pub mod Owners
+pub mod Places
+pub mod Refusals
+pub mod Resettled
+pub mod Serving
+pub mod TableOrders
+pub mod Taken
+pub mod Trial
+pub mod Unowned

@@ -1,0 +1,5 @@
+//! Laws of mutexes and of current priorities, which stand beside the definitions of `object_model`. Nothing is built on this
+//! crate.
+#![tactic(auto)]
+
+pub mod laws;

@@ -1,0 +1,9 @@
+pub mod Boxes
+pub mod Buffers
+pub mod Callers
+pub mod Ceilings
+pub mod Chains
+pub mod Limits
+pub mod Mutexes
+pub mod Owners
+pub mod Pools

@@ -1,0 +1,9 @@
+pub mod Placing
+pub mod Gaps
+pub mod Freeing
+pub mod Blocks
+pub mod Waits
+pub mod Refusals
+pub mod Trial
+pub mod Apart
+pub mod Wishes

@@ -1,0 +1,2 @@
+pub mod SemFlags
+pub mod Tasks
