@@ -5,3 +5,6 @@ pub mod Lives
 pub mod Stays
 pub mod Claims
 pub mod Aborts
+pub mod Handing
+pub mod Fits
+pub mod Ties

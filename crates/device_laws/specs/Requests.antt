@@ -1,6 +1,6 @@
 -- What becomes of the requests from one table to a later one.
-use Rattle.std.specs.Prelude.{◌≡◌, ℕ, ◌<◌, Bool, false, Option, Some, None}
-use Rattle.device_model.specs.Devices.Tables.{Given, Row, Devices, given_in, link_at, row_at}
+use Rattle.std.specs.Prelude.{◌≡◌, ℕ, ◌<◌, Bool, true, false, Option, Some, None}
+use Rattle.device_model.specs.Devices.Tables.{Given, Link, Row, Devices, given_in, is_at_driver, link_at, row_at}
 use Rattle.device_model.specs.Devices.MoveProofs.{is_aborted}
 
 -- no two requests have one serial, and each has one that was given
@@ -36,3 +36,14 @@ is_asked dv d = asked_in (given_in (link_at dv d))
 pub record NoneAborted (dv : Devices) : Type 0 where
   pub drivers : (d : ℕ) → is_asked dv d ≡ false
   pub requests : (id : ℕ) (row : Row) → row_at dv id ≡ Some row → is_aborted row.life ≡ false
+
+-- a request is with the driver of a device by the table, too
+pub record IsAway (dv : Devices) (d id : ℕ) : Type 0 where
+  pub row : Row
+  pub there : row_at dv id ≡ Some row
+  pub away : is_at_driver row.life ≡ true
+  pub device : row.device ≡ d
+
+-- what the kernel has given to a driver is with it by the table of requests
+pub record AreTied (dv : Devices) : Type 0 where
+  pub given : (d : ℕ) (link : Link) (given : Given) → link_at dv d ≡ Some link → link.given ≡ Some given → IsAway dv d given.request.id

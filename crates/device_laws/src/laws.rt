@@ -2,12 +2,14 @@
 
 ghost use Rattle.std.specs.Prelude.{◌≡◌, ℕ, true, false, ℤ, List, Some};
 ghost use Rattle.std.specs.List.{list_any};
+ghost use Rattle.std.specs.Option.{is_some};
 ghost use Rattle.std.specs.Int.{is_negative};
 ghost use Rattle.tk_types.specs.declared.answer.Answer.{Answer};
 ghost use Rattle.tk_types.specs.declared.answer.Outcome.TheVariants.{Returned};
 ghost use Rattle.tk_types.specs.declared.answer.Who.{Who};
 ghost use Rattle.tk_types.specs.declared.calls.DeviceCall.{DeviceCall};
 ghost use Rattle.tk_types.specs.declared.calls.DeviceCall.TheVariants as call;
+ghost use Rattle.tk_types.specs.declared.line.How.{How};
 ghost use Rattle.tk_types.specs.declared.line.How.TheVariants.{Cut, Done};
 ghost use Rattle.tk_types.specs.declared.script.Script.{Script};
 ghost use Rattle.kernel_model.specs.Tasks.Base.{Base};
@@ -21,8 +23,8 @@ ghost use Rattle.device_model.specs.Devices.Calls.{device_call};
 ghost use Rattle.device_model.specs.Devices.MoveProofs.{is_abort};
 ghost use Rattle.device_laws.specs.Claims.{HandsOut, Serves};
 ghost use Rattle.device_laws.specs.Moves.{Leads, LeadsIfAny, Move, all_moved, asks, lets_go};
-ghost use Rattle.device_laws.specs.Requests.{AreApart, IsGone, IsThere, NoneAborted, StaysSo, is_asked};
-ghost use Rattle.device_laws.specs.Words.{may_answer_for_buffer};
+ghost use Rattle.device_laws.specs.Requests.{AreApart, IsGone, IsThere, AreTied, NoneAborted, StaysSo, is_asked};
+ghost use Rattle.device_laws.specs.Words.{NobodyIsServed, may_answer_for_buffer};
 
 /// All that is done to devices is a list of nine moves, each of which changes nothing where it can't be done: by every call,
 /// each kind of serving, when requests go to drivers, and when an ending arrives.
@@ -77,4 +79,23 @@ pub fn an_ending_is_handed_out_to_whom_it_belongs()
         (device_call p who (call.WaiDev descriptor named timeout)).outcome ≡ Returned answer → is_negative answer.value ≡ false →
         HandsOut p (natural descriptor) (natural named) answer (device_call p who (call.WaiDev descriptor named timeout)).parts }
     ensures serving { (p after : DevParts) → serve_endings p ≡ Some after → (dd : ℕ) × Serves p dd after }
+{}
+
+/// Requests that go to drivers leave nobody to serve: where nobody could be served before, nobody can be after it. So it is
+/// enough that they go once all is settled.
+pub fn handing_over_leaves_nobody_to_serve()
+    ensures free { (p : DevParts) (b : Base) → NobodyIsServed p → NobodyIsServed (record p { table = hand_over b p.table }) }
+    ensures sync { (p : DevParts) → NobodyIsServed p → NobodyIsServed (record p { table = hand_first p.table }) }
+{}
+
+/// An ending that arrives is the one that is expected of its kind, but for the number of messages that were taken; and what is
+/// expected arrives, whatever that number is, where drivers and table agree. They do so from the start and after every list of
+/// moves: what was given to a driver is with it by the table of requests.
+pub fn an_ending_arrives_where_it_is_expected()
+    ensures arrived { (p after : DevParts) (ending : Ending) → arrive p ending ≡ Some after →
+        expected p.table ending.device ending.how ≡ Some (record ending { taken = 0 }) }
+    ensures arrives { (p : DevParts) (d : ℕ) (how : How) (ending : Ending) (taken : ℕ) → AreTied p.table →
+        expected p.table d how ≡ Some ending → is_some (arrive p (record ending { taken = taken })) ≡ true }
+    ensures tied { (dv : Devices) (moves : List Move) → AreTied dv → AreTied (all_moved dv moves) }
+    ensures start { (script : Script) (moves : List Move) → AreTied (all_moved (devices_start script) moves) }
 {}
