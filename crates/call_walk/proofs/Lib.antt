@@ -3,6 +3,7 @@ pub mod ContextCalls
 pub mod DeviceCalls
 pub mod MailCalls
 pub mod MutexCalls
+pub mod Places
 pub mod PoolCalls
 pub mod SemFlagCalls
 pub mod Slots
