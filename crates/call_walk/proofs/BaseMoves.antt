@@ -1,6 +1,6 @@
 -- What holds of the base after every list of moves. A word on the base that each move keeps is kept by all that is made of
 -- them: by every call, and by the changes of priorities in settling.
-use Rattle.std.proofs.Common.{◌≡◌, ℕ, zero, suc, ◌+◌, Bool, true, false, cond, List, [], ◌∷◌, Option, Some, None, ℤ}
+use Rattle.std.proofs.Common.{ℕ, zero, suc, Bool, true, false, cond, List, [], ◌∷◌, Option, Some, None, ℤ}
 use Rattle.std.specs.Bool.{◌==◌}
 use Rattle.std.specs.Prelude.{filter, length}
 use Rattle.tk_types.specs.declared.answer.Answer.{Answer}

@@ -1,6 +1,6 @@
 -- What is set for a time: what survives that an event is made, that only those are left that pass a test, and that the first is
 -- taken, survives every move. So the events stand in the order of their times.
-use Rattle.std.proofs.Common.{◌≡◌, ℕ, zero, suc, ◌+◌, ◌-◌, ◌≤◌, ◌<◌, Bool, true, false, not, cond, List, [], ◌∷◌, Option, Some, None, refl, arith, ℤ, pos, negsuc}
+use Rattle.std.proofs.Common.{◌≡◌, ℕ, suc, ◌+◌, ◌-◌, ◌≤◌, ◌<◌, Bool, true, false, not, cond, List, [], ◌∷◌, refl, arith, ℤ, pos, negsuc}
 use Rattle.std.specs.Bool.{◌==◌}
 use Rattle.std.specs.Prelude.{All, drop, filter, nat_lt}
 use Rattle.std.proofs.lemmas.Bool.Decides.{nat_tests}
@@ -11,8 +11,8 @@ use Rattle.tk_types.specs.declared.task.DueEvent.{DueEvent}
 use Rattle.tk_types.specs.declared.task.Event.TheVariants.{Wait}
 use Rattle.tk_types.specs.declared.task.Order.{Order}
 use Rattle.kernel_model.specs.LawWords.TimeOrder.{AreInTimeOrder}
-use Rattle.kernel_model.specs.Words.Events.{ends_wait_of, insert_event, is_due, left_after}
-use Rattle.kernel_model.specs.Tasks.Base.{Base, drop_wait, has_room, is_waiting_phase, limited, make_wait, move_wait, release, resume, resumed, take_bytes, take_due, task_at}
+use Rattle.kernel_model.specs.Words.Events.{ends_wait_of, insert_event, is_due}
+use Rattle.kernel_model.specs.Tasks.Base.{Base, has_room, is_waiting_phase, limited, make_wait, move_wait, release, resume, resumed, take_bytes, task_at}
 use Rattle.kernel_lemmas.proofs.Tables.{entry_cases}
 use Rattle.call_walk.proofs.BaseMoves.{IsBaseProof, either_base}
 

@@ -1,5 +1,5 @@
 -- Each task that waits keeps its places among the stamps, through every move.
-use Rattle.std.proofs.Common.{◌≡◌, ℕ, zero, suc, ◌+◌, ◌-◌, ◌≤◌, Bool, true, false, not, cond, List, [], ◌∷◌, ◌++◌, Option, Some, None, refl, ◌∙◌, ap, sym, subst, arith, ℤ, pos, negsuc}
+use Rattle.std.proofs.Common.{◌≡◌, ℕ, ◌+◌, ◌-◌, ◌≤◌, Bool, true, false, not, cond, List, [], ◌∷◌, Option, Some, None, refl, ◌∙◌, ap, sym, subst, arith, ℤ, pos, negsuc}
 use Rattle.std.specs.Bool.{◌==◌}
 use Rattle.std.specs.Prelude.{slice_set}
 use Rattle.std.proofs.lemmas.Bool.Decides.{nat_tests}
@@ -10,7 +10,7 @@ use Rattle.tk_types.specs.declared.task.Phase.TheVariants.{Dormant, Ready, Waiti
 use Rattle.tk_types.specs.declared.task.Task.{Task}
 use Rattle.kernel_model.specs.LawWords.Once.{times}
 use Rattle.kernel_model.specs.Words.Orders.{entry, to_back, without}
-use Rattle.kernel_model.specs.Tasks.Base.{Base, back_if_any, back_unless_suspended, becomes_ready, create, delete, has_room, is_waiting_phase, limited, make_dormant, make_ready, make_wait, move_wait, release, resume, resumed, set_base, set_current, set_wakeups, suspend, take_bytes, task_at, waiting_in, waits_in}
+use Rattle.kernel_model.specs.Tasks.Base.{Base, becomes_ready, create, delete, has_room, is_waiting_phase, limited, make_dormant, make_ready, make_wait, move_wait, release, resume, resumed, set_base, set_current, set_wakeups, suspend, task_at, waiting_in, waits_in}
 use Rattle.kernel_model.specs.Tasks.Waits.{HavePlaces}
 use Rattle.kernel_lemmas.proofs.Once.{times_append}
 use Rattle.kernel_lemmas.proofs.ReadyLists.{times_filter_is}

@@ -1,6 +1,6 @@
 -- The stamps: what survives that an ID takes the last place, or is taken out, survives every move. So each task has one place
 -- at most, by when it became ready and by when it began to wait.
-use Rattle.std.proofs.Common.{◌≡◌, ℕ, ◌-◌, Bool, true, false, not, cond, List, ◌∷◌, Option, Some, None, ℤ, pos, negsuc}
+use Rattle.std.proofs.Common.{ℕ, ◌-◌, Bool, true, false, not, cond, List, ℤ, pos, negsuc}
 use Rattle.std.specs.Bool.{◌==◌}
 use Rattle.tk_types.specs.declared.answer.Answer.{Answer}
 use Rattle.tk_types.specs.declared.task.Order.{Order}
