@@ -1,6 +1,6 @@
 -- What holds of the base after every list of moves. A word on the base that each move keeps is kept by all that is made of
 -- them: by every call, and by the changes of priorities in settling.
-use Rattle.std.proofs.Common.{◌≡◌, ℕ, zero, suc, ◌+◌, Bool, true, false, cond, List, [], ◌∷◌, Option, Some, None, ℤ}
+use Rattle.std.proofs.Common.{ℕ, zero, suc, Bool, true, false, cond, List, [], ◌∷◌, Option, Some, None, ℤ}
 use Rattle.std.specs.Bool.{◌==◌}
 use Rattle.std.specs.Prelude.{filter, length}
 use Rattle.tk_types.specs.declared.answer.Answer.{Answer}
@@ -86,3 +86,32 @@ ends_keep P is (suc left) order object b has = ends_keep P is left order object 
 -- the ends of all waits for an object that is deleted
 pub end_waits_keeps : (P : Base → Type 0) → IsBaseProof P → (order : Order) (object : ℕ) (b : Base) → P b → P (end_waits order object b)
 end_waits_keeps P is order object b has = ends_keep P is (length (queue order b object)) order object b has
+
+-- ---- two words together
+
+-- each move keeps two words that it keeps one by one
+pub both_kept : (P Q : Base → Type 0) → IsBaseProof P → IsBaseProof Q → IsBaseProof (λ b. P b × Q b)
+both_kept P Q one other = record {
+  created = λ b t priority stack has. (one.created b t priority stack has.0, other.created b t priority stack has.1);
+  deleted = λ b t has. (one.deleted b t has.0, other.deleted b t has.1);
+  readied = λ b t has. (one.readied b t has.0, other.readied b t has.1);
+  ended = λ b t has. (one.ended b t has.0, other.ended b t has.1);
+  suspended = λ b t has. (one.suspended b t has.0, other.suspended b t has.1);
+  resumed = λ b t all has. (one.resumed b t all has.0, other.resumed b t all has.1);
+  based = λ b t priority has. (one.based b t priority has.0, other.based b t priority has.1);
+  refreshed = λ b t priority has. (one.refreshed b t priority has.0, other.refreshed b t priority has.1);
+  woken = λ b t n has. (one.woken b t n has.0, other.woken b t n has.1);
+  waits = λ b t object order timeout has. (one.waits b t object order timeout has.0, other.waits b t object order timeout has.1);
+  moved = λ b t object order has. (one.moved b t object order has.0, other.moved b t object order has.1);
+  released = λ b t answer has. (one.released b t answer has.0, other.released b t answer has.1);
+  placed = λ b t has. (one.placed b t has.0, other.placed b t has.1);
+  taken = λ b n has. (one.taken b n has.0, other.taken b n has.1);
+  given = λ b n has. (one.given b n has.0, other.given b n has.1);
+  added = λ b time what has. (one.added b time what has.0, other.added b time what has.1);
+  passed = λ b passes has. (one.passed b passes has.0, other.passed b passes has.1);
+  advanced = λ b has. (one.advanced b has.0, other.advanced b has.1);
+  due = λ b has. (one.due b has.0, other.due b has.1);
+  flagged = λ b flags has. (one.flagged b flags has.0, other.flagged b flags has.1);
+  turned = λ b cur has. (one.turned b cur has.0, other.turned b cur has.1);
+  emptied = λ b has. (one.emptied b has.0, other.emptied b has.1);
+}

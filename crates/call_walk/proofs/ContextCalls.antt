@@ -1,5 +1,5 @@
 -- What each move of the base keeps, each call on interrupts, on what delays dispatching, and on subsystems keeps.
-use Rattle.std.proofs.Common.{◌≡◌, ℕ, true, false, List, [], ◌∷◌, Option, Some, None, ℤ}
+use Rattle.std.proofs.Common.{true, false, List, [], ◌∷◌, Option, Some, None}
 use Rattle.tk_types.specs.declared.answer.Who.{Who}
 use Rattle.tk_types.specs.declared.calls.ContextCall.{ContextCall}
 use Rattle.tk_types.specs.declared.calls.ContextCall.TheVariants as call

@@ -1,5 +1,5 @@
 -- What each move of the base keeps, each call on devices keeps; and an ending that arrives leaves the base.
-use Rattle.std.proofs.Common.{◌≡◌, ℕ, ◌+◌, ◌-◌, Bool, true, false, not, cond, List, [], ◌∷◌, Option, Some, None, refl, ap, sym, subst, ◌∙◌, ℤ, pos, negsuc}
+use Rattle.std.proofs.Common.{◌≡◌, ℕ, Bool, true, false, not, cond, List, [], ◌∷◌, Option, Some, None, refl, ap, sym, subst, ◌∙◌, ℤ, pos, negsuc}
 use Rattle.std.specs.Bool.{◌==◌}
 use Rattle.std.specs.Prelude.{filter, fold, if◌then◌else◌, is_some, reverse}
 use Rattle.std.specs.Ordering.{int_eq}

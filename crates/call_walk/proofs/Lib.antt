@@ -1,10 +1,13 @@
 pub mod BaseMoves
 pub mod ContextCalls
 pub mod DeviceCalls
+pub mod DueEvents
 pub mod MailCalls
 pub mod MutexCalls
+pub mod Places
 pub mod PoolCalls
 pub mod SemFlagCalls
 pub mod Slots
+pub mod Stamps
 pub mod TaskCalls
 pub mod TimeCalls

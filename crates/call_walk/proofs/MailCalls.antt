@@ -1,15 +1,13 @@
 -- What each move of the base keeps, each call on mailboxes and message buffers keeps, and what the kernel itself sends to a
 -- buffer.
-use Rattle.std.proofs.Common.{◌≡◌, ℕ, ◌*◌, length, Bool, true, false, cond, List, [], ◌∷◌, Option, Some, None, ℤ, pos}
+use Rattle.std.proofs.Common.{ℕ, ◌*◌, length, Bool, true, false, cond, List, [], ◌∷◌, Option, Some, None, ℤ, pos}
 use Rattle.std.specs.Ordering.{int_eq}
 use Rattle.tk_types.specs.declared.answer.Who.{Who}
-use Rattle.tk_types.specs.declared.answer.Answer.{Answer}
 use Rattle.tk_types.specs.declared.answer.Outcome.TheVariants as outcomes
 use Rattle.tk_types.specs.declared.calls.MailCall.{MailCall}
 use Rattle.tk_types.specs.declared.calls.MailCall.TheVariants as call
 use Rattle.tk_types.specs.declared.error_code.Er.{Er}
 use Rattle.tk_types.specs.declared.error_code.Er.TheVariants as er
-use Rattle.tk_types.specs.declared.modes.Attributes.{Attributes}
 use Rattle.tk_types.specs.declared.task.Order.{Order}
 use Rattle.tk_types.specs.declared.task.Order.TheVariants.{Fifo}
 use Rattle.kernel_model.specs.Words.Checks.{Check, failed, first_error, natural, plain}
@@ -17,10 +15,10 @@ use Rattle.kernel_model.specs.Tasks.Base.{Base, make_wait}
 use Rattle.kernel_model.specs.Tasks.Calls.{caller}
 use Rattle.kernel_model.specs.SemFlags.Calls.{end_waits, object_checks, would_be_first}
 use Rattle.object_model.specs.declared.mails.Message.{Message}
-use Rattle.object_model.specs.Mails.Tables.{Mailbox, MailParts, Mails, MessageBuffer, box_at, box_object, buffer_at, bytes_of, has_mbf, has_mbx, receivers_object, senders_object}
+use Rattle.object_model.specs.Mails.Tables.{Mailbox, MailParts, Mails, MessageBuffer, box_at, box_object, buffer_at, has_mbf, has_mbx, receivers_object, senders_object}
 use Rattle.object_model.specs.Mails.Bytes.{bytes_at}
 use Rattle.object_model.specs.Mails.Boxes.{message_bytes}
-use Rattle.object_model.specs.Mails.Buffers.{delivered, first_of, has_space, message_stored, none_waits, post, posted, receivers, senders, sent_at_once, takes_length}
+use Rattle.object_model.specs.Mails.Buffers.{first_of, has_space, message_stored, none_waits, post, posted, receivers, senders, sent_at_once, takes_length}
 use Rattle.object_model.specs.Mails.Calls as calls
 use Rattle.object_model.specs.Mails.Calls.{MailDone, asked_into, asked_to_send, mail_call, mail_checked, mail_done, refused_with, waits_or_ends}
 use Rattle.call_walk.proofs.BaseMoves.{IsBaseProof, end_waits_keeps}

@@ -1,5 +1,5 @@
 -- What each move of the base keeps, each call on mutexes keeps, and each change of priorities in settling.
-use Rattle.std.proofs.Common.{◌≡◌, ℕ, Bool, true, false, cond, List, [], ◌∷◌, Option, Some, None, ℤ, pos}
+use Rattle.std.proofs.Common.{ℕ, Bool, true, false, cond, List, [], ◌∷◌, Option, Some, None, ℤ, pos}
 use Rattle.std.specs.Bool.{◌==◌}
 use Rattle.std.specs.Prelude.{drop, fold}
 use Rattle.std.specs.Ordering.{int_eq}

@@ -1,12 +1,11 @@
 -- What each move of the base keeps, each call on semaphores and event flags keeps.
-use Rattle.std.proofs.Common.{◌≡◌, ℕ, Bool, true, false, cond, List, [], Option, Some, None, ℤ, pos}
+use Rattle.std.proofs.Common.{ℕ, Bool, true, false, cond, List, [], Option, Some, None, ℤ, pos}
 use Rattle.std.specs.Ordering.{int_eq}
 use Rattle.tk_types.specs.declared.answer.Who.{Who}
 use Rattle.tk_types.specs.declared.answer.Outcome.TheVariants as outcomes
 use Rattle.tk_types.specs.declared.calls.SemFlagCall.{SemFlagCall}
 use Rattle.tk_types.specs.declared.calls.SemFlagCall.TheVariants as call
 use Rattle.tk_types.specs.declared.error_code.Er.TheVariants as er
-use Rattle.tk_types.specs.declared.modes.FlagMode.{FlagMode}
 use Rattle.tk_types.specs.declared.task.Order.{Order}
 use Rattle.kernel_model.specs.declared.objects.EventFlag.{EventFlag}
 use Rattle.kernel_model.specs.declared.objects.FlagWish.{FlagWish}

@@ -1,5 +1,5 @@
 -- What each move of the base keeps, each call on time, cyclic and alarm handlers keeps, and a cyclic handler that falls due.
-use Rattle.std.proofs.Common.{◌≡◌, ℕ, ◌+◌, not, Bool, true, false, List, [], ◌∷◌, Option, Some, None, ℤ, pos}
+use Rattle.std.proofs.Common.{ℕ, ◌+◌, not, List, [], ◌∷◌, Option, Some, None, ℤ, pos}
 use Rattle.std.specs.Prelude.{int_le}
 use Rattle.tk_types.specs.declared.calls.TimeCall.{TimeCall}
 use Rattle.tk_types.specs.declared.calls.TimeCall.TheVariants as call
