@@ -1,7 +1,6 @@
 -- What every move of the base keeps, every event keeps: it is enough to look at the moves.
-use Rattle.std.proofs.Common.{◌≡◌, ℕ, suc, ◌≤◌, length, List, [], ◌∷◌, Option, Some, None, refl, ◌∙◌, ap, subst, arith}
-use Rattle.std.specs.Prelude.{map, replicate}
-use Rattle.std.proofs.lemmas.List.{length-set}
+use Rattle.std.proofs.Common.{◌≡◌, ℕ, suc, ◌≤◌, length, List, [], ◌∷◌, Option, Some, None, refl, ap, subst, arith}
+use Rattle.std.specs.Prelude.{map}
 use Rattle.tk_types.specs.declared.run.Mode.TheVariants as modes
 use Rattle.tk_types.specs.declared.script.Script.{Script}
 use Rattle.kernel_model.specs.Tasks.Base.{Base}
@@ -99,6 +98,6 @@ mapped_length f (x ∷ xs) = ap (λ n. suc n) (mapped_length f xs)
 pub start_slots : (script : Script) → IsRunnable script → HasSlots (parts_of (state_start script))
 unfolding state_start devices_start
 start_slots script runnable = record {
-  base = length-set (replicate 256 None) 1 _ ∙ refl;
+  base = refl;
   few = let devices : length script.devices ≤ 8 = runnable.few_devices in let same = mapped_length link_start script.devices in omega (arith, devices, same);
 }
