@@ -6,50 +6,45 @@ ghost use Rattle.tk_types.specs.declared.script.Script.{Script};
 ghost use Rattle.tk_types.specs.declared.task.Event.{Event as DueKind};
 ghost use Rattle.kernel_model.specs.Bodies.Statements.{IsRunnable};
 ghost use Rattle.machine_lemmas.specs.Strict.{IsStrict};
+ghost use Rattle.machine_lemmas.specs.Taken.{ticks_taken};
 ghost use Rattle.machine_lemmas.specs.Weights.{weight};
 ghost use Rattle.machine_model.specs.Events.Follow.{dispatched, followed};
 ghost use Rattle.machine_model.specs.Events.Rest.{AreUpToDate, IsAtRest};
 ghost use Rattle.machine_model.specs.Events.Settle.{handed, settle};
 ghost use Rattle.machine_model.specs.Runs.Reached.{Move, state_after};
 ghost use Rattle.machine_model.specs.Runs.Step.{is_paced, made_pending, worked};
-ghost use Rattle.machine_model.specs.Runs.Trace.{start};
 ghost use Rattle.machine_model.specs.Runs.Turns.{turn_of};
 ghost use Rattle.machine_model.specs.States.Objects.{Parts, serve_object};
-ghost use Rattle.machine_model.specs.States.State.{State, parts_of};
+ghost use Rattle.machine_model.specs.States.State.{State};
 ghost use Rattle.machine_model.specs.declared.turns.Turn.TheVariants as turns;
-ghost use Rattle.machine_laws.specs.Turns.{ticks_taken};
 
 /// After settling nobody can be served: no object of any kind has a waiter whose wait it could end or move, each task's current
-/// priority is that of its definition, and no request can go to a driver that has none. Each serving makes the waits lighter,
+/// priority is that of its definition, and settling hands no request to a driver any more. Each serving makes the waits lighter,
 /// where one for the acceptance of a request weighs two, since its task may go on to wait for the ending, and every other one
-/// weighs one; so 512 servings are enough for a table of 256 slots. There are no more than eight devices. All that holds in
-/// every state that a machine comes to, by whatever steps and endings, and in both modes.
+/// weighs one; so 512 servings are enough for a table of 256 slots. Every state that a machine comes to has that many slots and
+/// at most eight devices (`slots`, `devices`), whose list begins with a place that none takes.
 pub fn settling_serves_until_none_can_be()
     ensures lighter { (p q : Parts) → length p.objects.devices.links ≤ 9 → serve_object p ≡ Some q → weight q.base + 1 ≤ weight p.base }
     ensures none_left { (mode : Mode) (p : Parts) → length p.objects.devices.links ≤ 9 → length p.base.tasks ≤ 256 → serve_object (settle mode p) ≡ None }
     ensures priorities { (mode : Mode) (p : Parts) → AreUpToDate (settle mode p).base (settle mode p).objects.mutexes }
     ensures given { (mode : Mode) (p : Parts) → handed mode (settle mode p) ≡ settle mode p }
-    ensures reached { (script : Script) (mode : Mode) (budget : ℕ) (moves : List Move) → IsRunnable script →
-        serve_object (parts_of (state_after script mode budget moves)) ≡ None }
-    ensures reached_priorities { (script : Script) (mode : Mode) (budget : ℕ) (moves : List Move) → IsRunnable script →
-        AreUpToDate (state_after script mode budget moves).base (state_after script mode budget moves).objects.mutexes }
+    ensures slots { (script : Script) (mode : Mode) (budget : ℕ) (moves : List Move) → IsRunnable script →
+        length (state_after script mode budget moves).base.tasks ≡ 256 }
+    ensures devices { (script : Script) (mode : Mode) (budget : ℕ) (moves : List Move) → IsRunnable script →
+        length (state_after script mode budget moves).objects.devices.links ≤ 9 }
 {}
 
 /// From a state at rest nothing follows: where it has settled, no end of a wait is left to take, and the chosen task is the
 /// current one or dispatching is delayed, an event that touched nothing is followed by no change and no line. All that follows
-/// an event leaves a state at rest; where requests wait in sync mode for their turn, a step that hands one over changes nothing
-/// else. In every state that a machine comes to, what settling leaves is so, no end of a wait is left to take, and the chosen
-/// task is the current one unless dispatching is delayed.
+/// an event leaves a state at rest.
 pub fn nothing_follows_from_a_state_at_rest()
     ensures nothing { (script : Script) (mode : Mode) (n : ℕ) (st : State) → IsAtRest mode st →
         followed script mode n st ≡ record { state = st; lines = [] } }
     ensures comes { (script : Script) (mode : Mode) (n : ℕ) (st : State) → length st.objects.devices.links ≤ 9 → length st.base.tasks ≤ 256 →
         IsAtRest mode (followed script mode n st).state }
-    ensures reached { (script : Script) (mode : Mode) (budget : ℕ) (moves : List Move) → IsRunnable script →
-        IsAtRest mode (state_after script mode budget moves) }
 {}
 
-/// A handler is never interrupted: while it runs, each turn is its own, and no other task is dispatched. Where none runs, the
+/// A handler is never interrupted: while it runs, each turn is its own, and no task is dispatched. Where none runs, the
 /// first handler that is due has the next turn, before ticks, interrupts and tasks.
 pub fn a_handler_is_never_interrupted()
     ensures runs { (st : State) → st.base.flags.handler ≡ true → turn_of st ≡ turns.Handler }

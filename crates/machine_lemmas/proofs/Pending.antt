@@ -37,6 +37,7 @@ use Rattle.machine_model.specs.Events.Bodies.{begun, body_returned, entered, not
 use Rattle.machine_model.specs.Events.Calls.{answered, called, ended_by, family_call, without_holdings}
 use Rattle.machine_model.specs.Events.Ticks.{due_done, fallen, tick}
 use Rattle.machine_model.specs.Events.Handlers.{due_begun, handler_begun, insert_once, interrupt_begun, requested, with_requests}
+use Rattle.machine_lemmas.specs.Taken.{ticks_taken}
 use Rattle.machine_model.specs.Runs.Turns.{acted, done_turn, fell_in, ran, turn_of}
 use Rattle.machine_model.specs.Runs.Step.{is_paced, made_pending, paced, worked}
 
@@ -196,11 +197,6 @@ unfolding interrupt_begun handler_begun
 interrupt_of Q n st number has = has
 
 -- ---- turns
-
--- how many ticks a turn takes
-abbrev pub ticks_taken : Turn → ℕ
-ticks_taken turns.Tick = 1
-ticks_taken _ = 0
 
 -- a turn takes its tick, and no interrupt becomes pending by it
 pub turn_of_pending : (Q : ℕ → List ℕ → Type 0) → IsOfPending Q → (script : Script) (mode : Mode) (n : ℕ) (st : State) (turn : Turn) → Q (st.ticks - ticks_taken turn) st.pending → (0 - 0 ≡ 0 → st.ticks - 0 ≡ st.ticks) → Of Q (done_turn script mode n st turn).state

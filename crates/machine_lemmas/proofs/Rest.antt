@@ -34,7 +34,7 @@ settle_unserved : (mode : Mode) (p : Parts) → FewDevices p → length p.base.t
 unfolding settle
 settle_unserved mode p few slots = handed_none mode (served_within 512 (refreshed p)) (enough_servings p few slots)
 
-settle_given : (mode : Mode) (p : Parts) → handed mode (settle mode p) ≡ settle mode p
+pub settle_given : (mode : Mode) (p : Parts) → handed mode (settle mode p) ≡ settle mode p
 unfolding settle
 settle_given mode p = handed_twice mode (served_within 512 (refreshed p))
 
