@@ -149,3 +149,19 @@ hand_over_twice b dv = unless_twice (fifo_queue b suspension_object) dv (hand_ov
 pub handed_twice : (mode : Mode) (p : Parts) → handed_parts mode (handed_parts mode p) ≡ handed_parts mode p
 handed_twice modes.Sync p = refl
 handed_twice modes.Free p = ap (λ dv. record p { objects = record p.objects { devices = dv } }) (hand_over_twice p.base p.objects.devices)
+
+-- ---- nothing waits
+
+each_empty : (ids : List ℕ) (dv : Devices) → ((d : ℕ) → first_queued dv d ≡ None) → AllStay dv ids
+unfolding AllStay
+each_empty [] dv none = tt
+each_empty (d ∷ ids) dv none = (empty (none d), each_empty ids dv none)
+
+unless_empty : (waiters : List ℕ) (dv : Devices) → ((d : ℕ) → first_queued dv d ≡ None) → handed_unless waiters dv ≡ dv
+unless_empty [] dv none = all_same (device_ids dv) dv (each_empty (device_ids dv) dv none)
+unless_empty (t ∷ ts) dv none = refl
+
+-- where no request waits for a driver none goes
+pub hand_over_none : (b : Base) (dv : Devices) → dv.queued ≡ [] → hand_over b dv ≡ dv
+unfolding hand_over first_queued
+hand_over_none b dv none = unless_empty (fifo_queue b suspension_object) dv (λ d. ap (find (λ id. queues_on d (row_at dv id))) none)

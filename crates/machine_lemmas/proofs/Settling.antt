@@ -87,7 +87,8 @@ IsUnserved p = serve_object p ≡ None
 refreshed_weighs : (p : Parts) → weight (refreshed p).base ≡ weight p.base
 refreshed_weighs p = refreshed_keeps (λ q. weight q.base ≡ weight p.base) (λ q t priority same. current_weighs q.base t priority ∙ same) p refl
 
-none_waiting : (p : Parts) (next : Option Parts) → serve_object p ≡ next → FewDevices p → weight p.base ≤ 0 → IsUnserved p
+-- where no task waits nobody can be served
+pub none_waiting : (p : Parts) (next : Option Parts) → serve_object p ≡ next → FewDevices p → weight p.base ≤ 0 → IsUnserved p
 none_waiting p None is few none = is
 none_waiting p (Some q) is few none = let lighter = (serving p q few is).ends.lighter in absurd (omega (arith, lighter, none))
 
