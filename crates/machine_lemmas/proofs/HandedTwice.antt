@@ -1,14 +1,14 @@
 -- Once requests have gone to the drivers none is left that could go: each driver has one, or nothing waits for it.
-use Rattle.std.proofs.Common.{◌≡◌, ℕ, ◌+◌, Bool, true, false, not, cond, ◌&&◌, List, [], ◌∷◌, Option, Some, None, refl, ◌∙◌, ap, sym, subst}
-use Rattle.std.specs.Prelude.{filter, fold, slice_set}
+use Rattle.std.proofs.Common.{◌≡◌, ℕ, ◌+◌, Bool, true, false, not, cond, ◌&&◌, List, [], ◌∷◌, Option, Some, None, refl, ◌∙◌, ap, sym}
+use Rattle.std.specs.Prelude.{slice_set}
 use Rattle.std.specs.Bool.{◌==◌}
 use Rattle.std.specs.List.{find}
 use Rattle.tk_types.specs.declared.run.Mode.{Mode}
 use Rattle.tk_types.specs.declared.run.Mode.TheVariants as modes
-use Rattle.kernel_model.specs.Words.Orders.{entry, taken_from, without}
+use Rattle.kernel_model.specs.Words.Orders.{entry, without}
 use Rattle.kernel_model.specs.Tasks.Base.{Base, fifo_queue}
 use Rattle.device_model.specs.declared.rows.Life.TheVariants.{AtDriver}
-use Rattle.device_model.specs.Devices.Tables.{Devices, Given, Link, Row, device_ids, first_queued, given_in, handed, handed_first, handed_given, handed_link, handed_row, link_at, link_handed, queues_on, request_of, row_at}
+use Rattle.device_model.specs.Devices.Tables.{Devices, Given, Link, Row, device_ids, first_queued, handed, handed_first, handed_given, handed_link, handed_row, link_at, link_handed, queues_on, request_of, row_at}
 use Rattle.device_model.specs.Devices.Handing.{hand_over, handed_all, handed_unless, suspension_object}
 use Rattle.machine_model.specs.States.Objects.{Parts}
 use Rattle.machine_model.specs.Events.Settle.{handed as handed_parts}

@@ -1,7 +1,7 @@
 -- Requests that go to their drivers leave nobody to serve: a device has as many unfinished requests as before, nothing has
 -- ended, and no driver has got rid of one.
-use Rattle.std.proofs.Common.{◌≡◌, ℕ, zero, suc, ◌+◌, Bool, true, false, not, cond, ◌&&◌, ◌||◌, List, [], ◌∷◌, Option, Some, None, refl, ◌∙◌, ap, sym, subst, arith}
-use Rattle.std.specs.Prelude.{count_by, drop, fold, nat_lt, slice_set}
+use Rattle.std.proofs.Common.{◌≡◌, ℕ, zero, suc, ◌+◌, Bool, true, false, cond, ◌&&◌, ◌||◌, List, [], ◌∷◌, Option, Some, None, refl, ◌∙◌, ap, sym, subst}
+use Rattle.std.specs.Prelude.{count_by, drop, nat_lt, slice_set}
 use Rattle.std.specs.Bool.{◌==◌}
 use Rattle.std.specs.List.{find, list_any, slice_index_or}
 use Rattle.std.specs.Option.{is_some, option_map, option_or}
@@ -116,7 +116,8 @@ given_keeps links d link now at none other id =
     (λ is. let no_request : request_in (given_in (entry links d)) ≡ None = ap (λ slot. request_in (given_in slot)) at ∙ ap request_in none in absurd (cc (no_request, is)))
     (λ j apart is. is) other
 
-any_if : {A : Type 0} → (passes : A → Bool) (rest now : List A) (test : Bool) → (test || list_any passes rest) ≡ true → (list_any passes rest ≡ true → list_any passes now ≡ true) → (test || list_any passes now) ≡ true
+any_if : {A : Type 0} → (passes : A → Bool) (rest now : List A) (test : Bool) → (test || list_any passes rest) ≡ true →
+    (list_any passes rest ≡ true → list_any passes now ≡ true) → (test || list_any passes now) ≡ true
 any_if passes rest now true any later = refl
 any_if passes rest now false any later = later any
 

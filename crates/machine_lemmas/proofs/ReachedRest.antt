@@ -1,5 +1,5 @@
 -- Every state that a machine comes to is at rest.
-use Rattle.std.proofs.Common.{◌≡◌, ℕ, zero, suc, ◌+◌, ◌≤◌, Bool, true, false, not, ◌&&◌, ◌||◌, List, [], ◌∷◌, Option, Some, None, length, refl, ◌∙◌, ap, sym, subst, arith}
+use Rattle.std.proofs.Common.{◌≡◌, ℕ, zero, suc, ◌+◌, Bool, true, false, not, ◌&&◌, ◌||◌, List, [], ◌∷◌, Option, Some, None, refl, ◌∙◌, ap, sym, subst, arith}
 use Rattle.std.specs.Prelude.{replicate, slice_set}
 use Rattle.std.specs.Option.{option_map}
 use Rattle.tk_types.specs.declared.run.Mode.{Mode}
@@ -9,12 +9,11 @@ use Rattle.tk_types.specs.declared.task.Order.TheVariants.{Fifo}
 use Rattle.tk_types.specs.declared.task.Phase.TheVariants.{Ready}
 use Rattle.tk_types.specs.declared.task.Task.{Task}
 use Rattle.kernel_model.specs.Words.Orders.{entry}
-use Rattle.kernel_model.specs.Tasks.Base.{Base, base_in, base_of, base_start, chosen, current, current_in}
+use Rattle.kernel_model.specs.Tasks.Base.{base_in, base_of, base_start, chosen, current, current_in}
 use Rattle.kernel_model.specs.Tasks.Views.{is_current}
 use Rattle.kernel_model.specs.Bodies.Statements.{IsRunnable}
 use Rattle.object_model.specs.declared.mutexes.Mutex.{Mutex}
-use Rattle.object_model.specs.Mutexes.Tables.{mutexes_start, owner_in, owner_of}
-use Rattle.object_model.specs.Mutexes.Priority.{current_of}
+use Rattle.object_model.specs.Mutexes.Tables.{mutexes_start, owner_in}
 use Rattle.device_model.specs.declared.messages.Ending.{Ending}
 use Rattle.device_model.specs.Devices.Endings.{DevParts, arrive}
 use Rattle.device_model.specs.Devices.Handing.{any_given, any_queued}
@@ -22,7 +21,7 @@ use Rattle.device_model.specs.Devices.Tables.{Devices, devices_start}
 use Rattle.machine_model.specs.States.Objects.{Parts, dev_parts, serve_object, with_devices}
 use Rattle.machine_model.specs.States.State.{State, parts_of, state_start, with_parts}
 use Rattle.machine_model.specs.Events.Settle.{handed}
-use Rattle.machine_model.specs.Events.Follow.{delays, dispatched, turned}
+use Rattle.machine_model.specs.Events.Follow.{delays, dispatched}
 use Rattle.machine_model.specs.Events.Arrivals.{after_arrival, arrived}
 use Rattle.machine_model.specs.Events.Rest.{AreUpToDate, IsAtRest}
 use Rattle.machine_model.specs.Runs.Step.{any_unfinished, counted, ended_or_went, handed_if, has_event, is_quiet, made_pending, needed, needed_or, needed_sync, needs_if, step, step_if, with_first_handed, worked}
@@ -158,8 +157,8 @@ unfolding counted
 went_is Q true script mode budget st has works = has
 went_is Q false script mode budget st has works = works
 
-needed_is : (Q : State → Type 0) (waiting : Option State) (event : Bool) (script : Script) (mode : Mode) (budget : ℕ) (st : State) → ((now : State) → waiting ≡ Some now → Q now) → Q st → Stepped Q script mode st →
-    Q (after_pace st (needed_or waiting event script mode budget st))
+needed_is : (Q : State → Type 0) (waiting : Option State) (event : Bool) (script : Script) (mode : Mode) (budget : ℕ) (st : State) → ((now : State) → waiting ≡ Some now → Q now) →
+    Q st → Stepped Q script mode st → Q (after_pace st (needed_or waiting event script mode budget st))
 needed_is Q (Some now) event script mode budget st waits has works = waits now refl
 needed_is Q None event script mode budget st waits has works = went_is Q (not event && not (any_unfinished st.objects.devices)) script mode budget st has works
 
@@ -179,15 +178,16 @@ waiting_is : (Q : State → Type 0) (mode : Mode) (event : Bool) (st now : State
 waiting_is Q modes.Sync event st now has hands is = sync_is Q (any_given st.objects.devices) st now has (hands refl) is
 waiting_is Q modes.Free event st now has hands is = needs_is Q (not event && any_given st.objects.devices) st now has is
 
-quiet_is : (Q : State → Type 0) (quiet : Bool) (script : Script) (mode : Mode) (budget : ℕ) (st : State) → Q st → (mode ≡ modes.Sync → Q (with_first_handed st)) → Stepped Q script mode st → Q (after_pace st (step_if quiet script mode budget st))
+quiet_is : (Q : State → Type 0) (quiet : Bool) (script : Script) (mode : Mode) (budget : ℕ) (st : State) → Q st → (mode ≡ modes.Sync → Q (with_first_handed st)) → Stepped Q script mode st →
+    Q (after_pace st (step_if quiet script mode budget st))
 quiet_is Q true script mode budget st has hands works =
     let event : Bool = has_event script (st.steps + 1) st in
     needed_is Q (needed mode event st) event script mode budget st (λ now is. waiting_is Q mode event st now has hands is) has works
 quiet_is Q false script mode budget st has hands works = went_is Q false script mode budget st has works
 
 -- what holds in each of these cases holds after a step
-pub step_is : (Q : State → Type 0) (script : Script) (mode : Mode) (budget : ℕ) (st : State) → Q st → (mode ≡ modes.Sync → Q (with_first_handed st)) → Q (record (worked script mode (st.steps + 1) st).state { steps = st.steps + 1 }) →
-    Q (after_pace st (step script mode budget st))
+pub step_is : (Q : State → Type 0) (script : Script) (mode : Mode) (budget : ℕ) (st : State) → Q st → (mode ≡ modes.Sync → Q (with_first_handed st)) →
+    Q (record (worked script mode (st.steps + 1) st).state { steps = st.steps + 1 }) → Q (after_pace st (step script mode budget st))
 unfolding step
 step_is Q script mode budget st has hands works = quiet_is Q (is_quiet st) script mode budget st has hands works
 
