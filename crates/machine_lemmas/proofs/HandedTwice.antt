@@ -1,14 +1,14 @@
 -- Once requests have gone to the drivers none is left that could go: each driver has one, or nothing waits for it.
-use Rattle.std.proofs.Common.{◌≡◌, ℕ, ◌+◌, Bool, true, false, not, cond, ◌&&◌, List, [], ◌∷◌, Option, Some, None, refl, ◌∙◌, ap, sym, subst}
-use Rattle.std.specs.Prelude.{filter, fold, slice_set}
+use Rattle.std.proofs.Common.{◌≡◌, ℕ, ◌+◌, Bool, true, false, not, cond, ◌&&◌, List, [], ◌∷◌, Option, Some, None, refl, ◌∙◌, ap, sym}
+use Rattle.std.specs.Prelude.{slice_set}
 use Rattle.std.specs.Bool.{◌==◌}
 use Rattle.std.specs.List.{find}
 use Rattle.tk_types.specs.declared.run.Mode.{Mode}
 use Rattle.tk_types.specs.declared.run.Mode.TheVariants as modes
-use Rattle.kernel_model.specs.Words.Orders.{entry, taken_from, without}
+use Rattle.kernel_model.specs.Words.Orders.{entry, without}
 use Rattle.kernel_model.specs.Tasks.Base.{Base, fifo_queue}
 use Rattle.device_model.specs.declared.rows.Life.TheVariants.{AtDriver}
-use Rattle.device_model.specs.Devices.Tables.{Devices, Given, Link, Row, device_ids, first_queued, given_in, handed, handed_first, handed_given, handed_link, handed_row, link_at, link_handed, queues_on, request_of, row_at}
+use Rattle.device_model.specs.Devices.Tables.{Devices, Given, Link, Row, device_ids, first_queued, handed, handed_first, handed_given, handed_link, handed_row, link_at, link_handed, queues_on, request_of, row_at}
 use Rattle.device_model.specs.Devices.Handing.{hand_over, handed_all, handed_unless, suspension_object}
 use Rattle.machine_model.specs.States.Objects.{Parts}
 use Rattle.machine_model.specs.Events.Settle.{handed as handed_parts}
@@ -149,3 +149,19 @@ hand_over_twice b dv = unless_twice (fifo_queue b suspension_object) dv (hand_ov
 pub handed_twice : (mode : Mode) (p : Parts) → handed_parts mode (handed_parts mode p) ≡ handed_parts mode p
 handed_twice modes.Sync p = refl
 handed_twice modes.Free p = ap (λ dv. record p { objects = record p.objects { devices = dv } }) (hand_over_twice p.base p.objects.devices)
+
+-- ---- nothing waits
+
+each_empty : (ids : List ℕ) (dv : Devices) → ((d : ℕ) → first_queued dv d ≡ None) → AllStay dv ids
+unfolding AllStay
+each_empty [] dv none = tt
+each_empty (d ∷ ids) dv none = (empty (none d), each_empty ids dv none)
+
+unless_empty : (waiters : List ℕ) (dv : Devices) → ((d : ℕ) → first_queued dv d ≡ None) → handed_unless waiters dv ≡ dv
+unless_empty [] dv none = all_same (device_ids dv) dv (each_empty (device_ids dv) dv none)
+unless_empty (t ∷ ts) dv none = refl
+
+-- where no request waits for a driver none goes
+pub hand_over_none : (b : Base) (dv : Devices) → dv.queued ≡ [] → hand_over b dv ≡ dv
+unfolding hand_over first_queued
+hand_over_none b dv none = unless_empty (fifo_queue b suspension_object) dv (λ d. ap (find (λ id. queues_on d (row_at dv id))) none)

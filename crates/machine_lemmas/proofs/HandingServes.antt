@@ -1,9 +1,9 @@
 -- Requests that go to their drivers leave nobody to serve: a device has as many unfinished requests as before, nothing has
 -- ended, and no driver has got rid of one.
-use Rattle.std.proofs.Common.{◌≡◌, ℕ, zero, suc, ◌+◌, Bool, true, false, not, cond, ◌&&◌, List, [], ◌∷◌, Option, Some, None, refl, ◌∙◌, ap, sym, subst, arith}
-use Rattle.std.specs.Prelude.{count_by, drop, fold, nat_lt, slice_set}
+use Rattle.std.proofs.Common.{◌≡◌, ℕ, zero, suc, ◌+◌, Bool, true, false, cond, ◌&&◌, ◌||◌, List, [], ◌∷◌, Option, Some, None, refl, ◌∙◌, ap, sym, subst}
+use Rattle.std.specs.Prelude.{count_by, drop, nat_lt, slice_set}
 use Rattle.std.specs.Bool.{◌==◌}
-use Rattle.std.specs.List.{find, slice_index_or}
+use Rattle.std.specs.List.{find, list_any, slice_index_or}
 use Rattle.std.specs.Option.{is_some, option_map, option_or}
 use Rattle.std.proofs.lemmas.List.Sums.{sum_by-cons}
 use Rattle.tk_types.specs.declared.run.Mode.{Mode}
@@ -17,10 +17,10 @@ use Rattle.device_model.specs.declared.rows.Opened.{Opened}
 use Rattle.device_model.specs.declared.rows.Wish.{Wish}
 use Rattle.device_model.specs.declared.rows.Wish.TheVariants as wish
 use Rattle.device_model.specs.Devices.Tables.{Devices, Given, Link, Row, at_driver, device_ids, first_queued, given_in, handed, handed_first, handed_given, handed_link, handed_row, is_queued, link_at, link_handed, opened_at, queues_on, request_in, request_of, row_at, wish_of}
-use Rattle.device_model.specs.Devices.Handing.{hand_over, handed_all, handed_unless, suspension_object}
+use Rattle.device_model.specs.Devices.Handing.{any_given, hand_first, hand_over, handed_all, handed_one, handed_unless, has_given, suspension_object}
 use Rattle.device_model.specs.Devices.Endings.{DevParts, close_object}
 use Rattle.device_model.specs.Devices.Requests.{acceptance_object, ending_object, has_ended_of, has_ended_with, has_place, is_unfinished_on, picked}
-use Rattle.device_model.specs.Devices.Servings.{acceptance_by, admitted_if, admitted_wish, close_by, closed_unless, driver_has, ending_claimed, ending_of_first, is_of_descriptor, is_request_of, is_with_driver, serve_acceptance, serve_acceptances, serve_close, serve_closes, serve_ending, serve_endings, serve_suspension, suspension_by}
+use Rattle.device_model.specs.Devices.Servings.{acceptance_by, admitted_if, admitted_wish, close_by, closed_unless, driver_has, ending_claimed, ending_of_first, is_of_descriptor, is_request_of, is_with_driver, serve_acceptance, serve_acceptances, serve_close, serve_closes, serve_ending, serve_endings, serve_suspension, suspended_unless, suspension_by}
 use Rattle.machine_model.specs.States.Objects.{Parts, dev_parts, first_serving, kinds, serve_object}
 use Rattle.machine_model.specs.Events.Settle.{handed as handed_parts}
 use Rattle.kernel_lemmas.proofs.Tables.{entry_each, entry_there}
@@ -38,6 +38,7 @@ pub record AsReady (dv now : Devices) : Type 0 where
   pub has_ended_by : (dd serial id : ℕ) → has_ended_with dd serial (row_at now id) ≡ has_ended_with dd serial (row_at dv id)
   pub descriptor : (dd id : ℕ) → is_of_descriptor dd (row_at now id) ≡ is_of_descriptor dd (row_at dv id)
   pub given : (d id : ℕ) → at_driver dv d ≡ Some id → at_driver now d ≡ Some id
+  pub any_given : any_given dv ≡ true → any_given now ≡ true
 
 ready_itself : (dv : Devices) → AsReady dv dv
 ready_itself dv = record {
@@ -50,6 +51,7 @@ ready_itself dv = record {
   has_ended_by = λ dd serial id. refl;
   descriptor = λ dd id. refl;
   given = λ d id is. is;
+  any_given = λ is. is;
 }
 
 ready_then : (a b c : Devices) → AsReady a b → AsReady b c → AsReady a c
@@ -63,6 +65,7 @@ ready_then a b c first then = record {
   has_ended_by = λ dd serial id. then.has_ended_by dd serial id ∙ first.has_ended_by dd serial id;
   descriptor = λ dd id. then.descriptor dd id ∙ first.descriptor dd id;
   given = λ d id is. then.given d id (first.given d id is);
+  any_given = λ is. then.any_given (first.any_given is);
 }
 
 -- ---- one request goes
@@ -113,6 +116,17 @@ given_keeps links d link now at none other id =
     (λ is. let no_request : request_in (given_in (entry links d)) ≡ None = ap (λ slot. request_in (given_in slot)) at ∙ ap request_in none in absurd (cc (no_request, is)))
     (λ j apart is. is) other
 
+any_if : {A : Type 0} → (passes : A → Bool) (rest now : List A) (test : Bool) → (test || list_any passes rest) ≡ true →
+    (list_any passes rest ≡ true → list_any passes now ≡ true) → (test || list_any passes now) ≡ true
+any_if passes rest now true any later = refl
+any_if passes rest now false any later = later any
+
+-- where any passed, and what is written passes, any passes still
+any_written : {A : Type 0} → (passes : A → Bool) (xs : List A) (i : ℕ) (y : A) → passes y ≡ true → list_any passes xs ≡ true → list_any passes (slice_set xs i y) ≡ true
+any_written passes [] i y does any = any
+any_written passes (x ∷ xs) zero y does any = ap (λ test. test || list_any passes xs) does
+any_written passes (x ∷ xs) (suc i) y does any = any_if passes xs (slice_set xs i y) (passes x) any (any_written passes xs i y does)
+
 queued_is : (life : Life) → is_queued life ≡ true → life ≡ Queued
 queued_is Queued is = refl
 queued_is AtDriver is = absurd (cc is)
@@ -134,6 +148,7 @@ row_ready dv d link id (Some row) at none is queued =
       has_ended_by = λ dd serial other. row_reads (has_ended_with dd serial) dv.rows id row now is (serial_by_life dd serial row life) other;
       descriptor = λ dd other. row_reads (is_of_descriptor dd) dv.rows id row now is refl other;
       given = λ e other has. given_keeps dv.links d link (link_handed d link (request_of id (link.number + 1) row)) at none e other has;
+      any_given = λ any. any_written has_given dv.links d (Some (link_handed d link (request_of id (link.number + 1) row))) refl any;
     }
   where
     second : (a b : Bool) → (a && b) ≡ true → b ≡ true
@@ -186,6 +201,14 @@ unless_ready (t ∷ ts) dv = ready_itself dv
 pub hand_over_ready : (b : Base) (dv : Devices) → AsReady dv (hand_over b dv)
 unfolding hand_over
 hand_over_ready b dv = unless_ready (fifo_queue b suspension_object) dv
+
+one_ready : (first : Option ℕ) (dv : Devices) → AsReady dv (handed_one first dv)
+one_ready None dv = ready_itself dv
+one_ready (Some d) dv = handed_ready dv d
+
+pub hand_first_ready : (dv : Devices) → AsReady dv (hand_first dv)
+unfolding hand_first
+hand_first_ready dv = one_ready (find (λ d. is_some (first_queued dv d)) (device_ids dv)) dv
 
 -- ---- nobody can be served after it who couldn't before
 
@@ -314,14 +337,19 @@ closes_none p now ready is =
     first_none_by (serve_close p) (serve_close (with_devices_in p now)) (taken_from 1 (drop 1 p.table.opened)) (taken_from 1 (drop 1 now.opened))
     (ap (λ opened. taken_from 1 (drop 1 opened)) ready.opened) (λ dd none. close_by_none p now dd (fifo_queue p.base (close_object dd)) ready none) is
 
--- while a task waits for a suspension no request goes to a driver
-suspension_by_none : (p : DevParts) (waiters : List ℕ) → suspension_by p waiters ≡ None → suspension_by (with_devices_in p (handed_unless waiters p.table)) waiters ≡ None
-suspension_by_none p [] is = refl
-suspension_by_none p (t ∷ ts) is = is
+-- the caller of a suspension waits while any driver has a request
+unless_suspended : (any : Bool) (p : DevParts) (t : ℕ) → suspended_unless any p t ≡ None → any ≡ true
+unless_suspended true p t is = refl
+unless_suspended false p t is = absurd (cc is)
 
-suspension_none : (p : DevParts) → serve_suspension p ≡ None → serve_suspension (with_devices_in p (hand_over p.base p.table)) ≡ None
-unfolding serve_suspension hand_over
-suspension_none p is = suspension_by_none p (fifo_queue p.base suspension_object) is
+suspension_by_none : (p : DevParts) (now : Devices) (waiters : List ℕ) → AsReady p.table now → suspension_by p waiters ≡ None → suspension_by (with_devices_in p now) waiters ≡ None
+suspension_by_none p now [] ready is = refl
+suspension_by_none p now (t ∷ ts) ready is =
+    ap (λ any. suspended_unless any (with_devices_in p now) t) (ready.any_given (unless_suspended (any_given p.table) p t is))
+
+suspension_none : (p : DevParts) (now : Devices) → AsReady p.table now → serve_suspension p ≡ None → serve_suspension (with_devices_in p now) ≡ None
+unfolding serve_suspension
+suspension_none p now ready is = suspension_by_none p now (fifo_queue p.base suspension_object) ready is
 
 -- ---- all kinds
 
@@ -353,13 +381,12 @@ mapped_none put served is = ap (option_map put) is
 remapped : {A : Type 0} → (put other : A → Parts) (served : Option A) → option_map put served ≡ None → option_map other served ≡ None
 remapped put other served is = mapped_none other served (unmapped put served is)
 
-free_none : (p : Parts) → serve_object p ≡ None → serve_object (handed_parts modes.Free p) ≡ None
+-- where nobody can be served, nobody can be once requests have gone to their drivers
+pub ready_unserved : (p : Parts) (now : Devices) → AsReady p.objects.devices now → serve_object p ≡ None → serve_object (record p { objects = record p.objects { devices = now } }) ≡ None
 unfolding serve_object AllKinds
-free_none p is =
+ready_unserved p now ready is =
     let all = each_kind kinds p is in
-    let ready = hand_over_ready p.base p.objects.devices in
-    let now : Devices = hand_over p.base p.objects.devices in
-    no_kind kinds (handed_parts modes.Free p) (
+    no_kind kinds (record p { objects = record p.objects { devices = now } }) (
       remapped _ _ _ all.0,
       (
         remapped _ _ _ all.1.0,
@@ -378,7 +405,7 @@ free_none p is =
                     (
                       mapped_none _ _ (closes_none (dev_parts p) now ready (unmapped _ _ all.1.1.1.1.1.1.1.1.0)),
                       (
-                        mapped_none _ _ (suspension_none (dev_parts p) (unmapped _ _ all.1.1.1.1.1.1.1.1.1.0)),
+                        mapped_none _ _ (suspension_none (dev_parts p) now ready (unmapped _ _ all.1.1.1.1.1.1.1.1.1.0)),
                         tt,
                       ),
                     ),
@@ -394,4 +421,8 @@ free_none p is =
 -- requests that go to drivers leave nobody to serve
 pub handed_none : (mode : Mode) (p : Parts) → serve_object p ≡ None → serve_object (handed_parts mode p) ≡ None
 handed_none modes.Sync p is = is
-handed_none modes.Free p is = free_none p is
+handed_none modes.Free p is = ready_unserved p (hand_over p.base p.objects.devices) (hand_over_ready p.base p.objects.devices) is
+
+-- and so does the one that goes first in sync mode
+pub handed_first_none : (p : Parts) → serve_object p ≡ None → serve_object (record p { objects = record p.objects { devices = hand_first p.objects.devices } }) ≡ None
+handed_first_none p is = ready_unserved p (hand_first p.objects.devices) (hand_first_ready p.objects.devices) is

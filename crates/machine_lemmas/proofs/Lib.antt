@@ -16,3 +16,4 @@ pub mod Reached
 pub mod Pending
 pub mod KeptOnce
 pub mod BaseKept
+pub mod ReachedRest

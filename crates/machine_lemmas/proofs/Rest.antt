@@ -1,10 +1,10 @@
 -- From a state at rest nothing follows, and what follows an event comes to rest.
-use Rattle.std.proofs.Common.{◌≡◌, ℕ, ◌≤◌, Bool, true, false, ◌||◌, List, [], ◌∷◌, ◌++◌, Option, Some, None, length, refl, ◌∙◌, ap, sym, subst}
+use Rattle.std.proofs.Common.{◌≡◌, ℕ, ◌≤◌, Bool, true, false, ◌||◌, List, [], ◌∷◌, ◌++◌, Option, None, length, refl, ◌∙◌, ap, sym}
 use Rattle.tk_types.specs.declared.run.Mode.{Mode}
 use Rattle.tk_types.specs.declared.run.Mode.TheVariants as modes
 use Rattle.tk_types.specs.declared.script.Script.{Script}
 use Rattle.tk_types.specs.declared.task.Release.{Release}
-use Rattle.kernel_model.specs.Tasks.Base.{Base, chosen, dispatch}
+use Rattle.kernel_model.specs.Tasks.Base.{Base, chosen}
 use Rattle.kernel_model.specs.Tasks.Views.{is_current}
 use Rattle.object_model.specs.Mutexes.Tables.{Mutexes}
 use Rattle.object_model.specs.Mutexes.Priority.{current_of}
@@ -98,7 +98,8 @@ unfolding follow_each follow_release
 taken_each script n st [] none = none
 taken_each script n st (first ∷ rest) none = taken_each script n (follow_release script n st first).state rest none
 
-turned_taken : (same : Bool) (n : ℕ) (st : State) → st.base.released ≡ [] → (turned same n st).state.base.released ≡ []
+-- where no end of a wait is left to take, dispatching leaves none
+pub turned_taken : (same : Bool) (n : ℕ) (st : State) → st.base.released ≡ [] → (turned same n st).state.base.released ≡ []
 turned_taken true n st none = none
 turned_taken false n st none = none
 
@@ -111,7 +112,8 @@ or_true : (test : Bool) → (test || true) ≡ true
 or_true true = refl
 or_true false = refl
 
-turned_dispatched : (same : Bool) (n : ℕ) (st : State) → (delays st || is_current (chosen st.base) st.base.cur) ≡ same →
+-- after dispatching the chosen task is the current one, or it is delayed
+pub turned_dispatched : (same : Bool) (n : ℕ) (st : State) → (delays st || is_current (chosen st.base) st.base.cur) ≡ same →
     (delays (turned same n st).state || is_current (chosen (turned same n st).state.base) (turned same n st).state.base.cur) ≡ true
 unfolding chosen
 turned_dispatched true n st is = is

@@ -1,5 +1,5 @@
 -- What holds through settling; and that after it nobody can be served, and each priority is that of its definition.
-use Rattle.std.proofs.Common.{◌≡◌, ℕ, zero, suc, ◌+◌, ◌*◌, ◌≤◌, length, Bool, true, false, cond, List, [], ◌∷◌, Option, Some, None, refl, ◌∙◌, ap, sym, subst, arith}
+use Rattle.std.proofs.Common.{◌≡◌, ℕ, zero, suc, ◌≤◌, length, Bool, true, false, cond, List, [], ◌∷◌, Option, Some, None, refl, ◌∙◌, ap, sym, subst, arith}
 use Rattle.std.specs.Prelude.{drop, fold}
 use Rattle.std.specs.Bool.{◌==◌}
 use Rattle.tk_types.specs.declared.run.Mode.{Mode}
@@ -14,7 +14,7 @@ use Rattle.machine_model.specs.Events.Settle.{handed, refreshed, served_within, 
 use Rattle.mutex_laws.proofs.Resettled.{resettled_current, resettled_same}
 use Rattle.machine_lemmas.specs.Weights.{weight}
 use Rattle.machine_lemmas.proofs.Handing.{hand_over_many}
-use Rattle.machine_lemmas.proofs.Servings.{FewDevices, IsServing, serving}
+use Rattle.machine_lemmas.proofs.Servings.{FewDevices, serving}
 use Rattle.machine_lemmas.proofs.Weights.{current_weighs, weight_most}
 
 -- ---- what holds through settling
@@ -87,7 +87,8 @@ IsUnserved p = serve_object p ≡ None
 refreshed_weighs : (p : Parts) → weight (refreshed p).base ≡ weight p.base
 refreshed_weighs p = refreshed_keeps (λ q. weight q.base ≡ weight p.base) (λ q t priority same. current_weighs q.base t priority ∙ same) p refl
 
-none_waiting : (p : Parts) (next : Option Parts) → serve_object p ≡ next → FewDevices p → weight p.base ≤ 0 → IsUnserved p
+-- where no task waits nobody can be served
+pub none_waiting : (p : Parts) (next : Option Parts) → serve_object p ≡ next → FewDevices p → weight p.base ≤ 0 → IsUnserved p
 none_waiting p None is few none = is
 none_waiting p (Some q) is few none = let lighter = (serving p q few is).ends.lighter in absurd (omega (arith, lighter, none))
 
