@@ -1,12 +1,11 @@
 -- Whose turn it is while a handler runs, and where one is due.
-use Rattle.std.proofs.Common.{◌≡◌, ℕ, Bool, true, false, not, ◌||◌, List, [], ◌∷◌, length, refl, ◌∙◌, ap}
+use Rattle.std.proofs.Common.{◌≡◌, ℕ, Bool, true, false, not, ◌||◌, List, [], ◌∷◌, length, ◌∙◌, ap}
 use Rattle.std.specs.Bool.{◌==◌}
 use Rattle.tk_types.specs.declared.task.Event.{Event as DueKind}
 use Rattle.kernel_model.specs.Tasks.Base.{chosen}
 use Rattle.kernel_model.specs.Tasks.Views.{is_current}
-use Rattle.machine_model.specs.declared.turns.Turn.{Turn}
 use Rattle.machine_model.specs.declared.turns.Turn.TheVariants as turns
-use Rattle.machine_model.specs.Events.Follow.{Event, dispatched, turned}
+use Rattle.machine_model.specs.Events.Follow.{dispatched, turned}
 use Rattle.machine_model.specs.Runs.Turns.{turn_of, turn_of_due, turn_unless_handler}
 use Rattle.machine_model.specs.States.State.{State}
 

@@ -15,7 +15,7 @@ ghost use Rattle.machine_model.specs.Runs.Reached.{Move, state_after};
 ghost use Rattle.machine_model.specs.Runs.Step.{is_paced, made_pending, worked};
 ghost use Rattle.machine_model.specs.Runs.Turns.{turn_of};
 ghost use Rattle.machine_model.specs.States.Objects.{Parts, serve_object};
-ghost use Rattle.machine_model.specs.States.State.{State};
+ghost use Rattle.machine_model.specs.States.State.{State, parts_of};
 ghost use Rattle.machine_model.specs.declared.turns.Turn.TheVariants as turns;
 
 /// After settling nobody can be served: no object of any kind has a waiter whose wait it could end or move, each task's current
@@ -32,16 +32,23 @@ pub fn settling_serves_until_none_can_be()
         length (state_after script mode budget moves).base.tasks ≡ 256 }
     ensures devices { (script : Script) (mode : Mode) (budget : ℕ) (moves : List Move) → IsRunnable script →
         length (state_after script mode budget moves).objects.devices.links ≤ 9 }
+    ensures reached { (script : Script) (mode : Mode) (budget : ℕ) (moves : List Move) → IsRunnable script →
+        serve_object (parts_of (state_after script mode budget moves)) ≡ None }
+    ensures reached_priorities { (script : Script) (mode : Mode) (budget : ℕ) (moves : List Move) → IsRunnable script →
+        AreUpToDate (state_after script mode budget moves).base (state_after script mode budget moves).objects.mutexes }
 {}
 
 /// From a state at rest nothing follows: where it has settled, no end of a wait is left to take, and the chosen task is the
 /// current one or dispatching is delayed, an event that touched nothing is followed by no change and no line. All that follows
-/// an event leaves a state at rest.
+/// an event leaves a state at rest, and so every state that a machine comes to is at rest, by whatever steps and endings it was
+/// reached, also where in sync mode a request has just gone to its driver.
 pub fn nothing_follows_from_a_state_at_rest()
     ensures nothing { (script : Script) (mode : Mode) (n : ℕ) (st : State) → IsAtRest mode st →
         followed script mode n st ≡ record { state = st; lines = [] } }
     ensures comes { (script : Script) (mode : Mode) (n : ℕ) (st : State) → length st.objects.devices.links ≤ 9 → length st.base.tasks ≤ 256 →
         IsAtRest mode (followed script mode n st).state }
+    ensures reached { (script : Script) (mode : Mode) (budget : ℕ) (moves : List Move) → IsRunnable script →
+        IsAtRest mode (state_after script mode budget moves) }
 {}
 
 /// A handler is never interrupted: while it runs, each turn is its own, and no task is dispatched. Where none runs, the

@@ -1,6 +1,6 @@
 -- What a serving does to the base: waits for objects that serve end, or one moves from the acceptance of a request to its
 -- ending, and simulated memory is given back. So what holds through these holds through any serving.
-use Rattle.std.proofs.Common.{◌≡◌, ℕ, ◌+◌, ◌≤◌, Bool, true, false, Option, Some, None, refl, ◌∙◌, ap, sym, subst, arith}
+use Rattle.std.proofs.Common.{◌≡◌, ℕ, ◌+◌, ◌≤◌, true, arith}
 use Rattle.tk_types.specs.declared.answer.Answer.{Answer}
 use Rattle.tk_types.specs.declared.task.Order.TheVariants.{Fifo}
 use Rattle.kernel_model.specs.Tasks.Base.{Base, give_bytes, move_wait, release, waits_for}

@@ -1,7 +1,7 @@
 -- A serving at a device, at a descriptor or of the suspension ends a wait, or moves it from the acceptance of a request to its
 -- ending, and leaves the orders of all queues. The events of a suspension end waits of receivers at most.
-use Rattle.std.proofs.Common.{◌≡◌, ℕ, zero, suc, ◌+◌, ◌-◌, ◌≤◌, length, Bool, true, false, cond, ◌&&◌, List, [], ◌∷◌, Option, Some, None, refl, ◌∙◌, ap, sym, subst, pos, arith}
-use Rattle.std.specs.Prelude.{drop, fold, nat_le, nat_lt, reverse}
+use Rattle.std.proofs.Common.{◌≡◌, ℕ, zero, suc, ◌≤◌, length, Bool, true, false, cond, List, [], ◌∷◌, Option, Some, None, refl, ◌∙◌, ap, sym, subst, pos, arith}
+use Rattle.std.specs.Prelude.{drop, fold, reverse}
 use Rattle.std.specs.Bool.{◌==◌}
 use Rattle.std.specs.List.{find}
 use Rattle.std.specs.Option.{is_some}
@@ -9,7 +9,7 @@ use Rattle.tk_types.specs.declared.error_code.Er.TheVariants as er
 use Rattle.tk_types.specs.declared.task.Order.TheVariants.{Fifo}
 use Rattle.tk_types.specs.Codes.{code_of}
 use Rattle.kernel_model.specs.Words.Checks.{plain}
-use Rattle.kernel_model.specs.Tasks.Base.{Base, fifo_queue, move_wait, queue, release, waits_for}
+use Rattle.kernel_model.specs.Tasks.Base.{Base, fifo_queue, move_wait, release, waits_for}
 use Rattle.object_model.specs.Mails.Tables.{MessageBuffer, MailParts, receivers_object, buffer_at}
 use Rattle.object_model.specs.Mails.Buffers.{first_of, has_space, none_waits, post, posted, receivers, senders, sent_at_once, takes_length}
 use Rattle.object_model.specs.Mails.Orders.{mail_order}
@@ -17,10 +17,10 @@ use Rattle.device_model.specs.declared.rows.Transfer.{Transfer}
 use Rattle.device_model.specs.declared.rows.Wish.{Wish}
 use Rattle.device_model.specs.declared.rows.Wish.TheVariants as wish
 use Rattle.device_model.specs.Devices.Memory.{number_of, read_bytes}
-use Rattle.device_model.specs.Devices.Tables.{Devices, Row, accepted, accepted_in, dropped, dropped_in, is_at_driver, with_buffer, buffer_of, device_ids, free_request, opened_at, row_at, wish_of}
+use Rattle.device_model.specs.Devices.Tables.{Devices, Row, accepted, accepted_in, dropped, dropped_in, is_at_driver, with_buffer, buffer_of, device_ids, free_request, row_at, wish_of}
 use Rattle.device_model.specs.Devices.Handing.{any_given, suspension_object}
 use Rattle.device_model.specs.Devices.Endings.{DevParts, close_object}
-use Rattle.device_model.specs.Devices.Requests.{accept, acceptance_object, accept_event, accept_from, buffer_size, claimed, ending_object, has_place, is_own, may_be_buffer, picked, set_buffer}
+use Rattle.device_model.specs.Devices.Requests.{accept, acceptance_object, accept_event, accept_from, buffer_size, ending_object, has_place, may_be_buffer, picked}
 use Rattle.device_model.specs.Devices.Suspension.{after_post, event_bytes, event_sent, events_sent, mail_parts}
 use Rattle.device_model.specs.Devices.Servings.{acceptance_by, admitted, admitted_if, admitted_wish, after_acceptance, close_by, closed_unless, ending_claimed, ending_of_first, is_with_driver, serve_acceptance, serve_acceptances, serve_close, serve_closes, serve_ending, serve_endings, serve_suspension, suspended_unless, suspension_by}
 use Rattle.machine_lemmas.proofs.Changes.{IsChange, IsEnding, change_then, ends_then, one_ends, one_moves, releasing, unchanged}

@@ -1,7 +1,7 @@
 -- No move makes more devices.
-use Rattle.std.proofs.Common.{◌≡◌, ℕ, ◌≤◌, length, Bool, true, false, cond, List, [], ◌∷◌, Option, Some, None, refl, ◌∙◌, ap, sym, subst}
+use Rattle.std.proofs.Common.{◌≡◌, ℕ, ◌≤◌, length, Bool, true, false, cond, Option, Some, None, refl, ap, sym, subst}
 use Rattle.std.specs.Prelude.{slice_set}
-use Rattle.device_model.specs.Devices.Tables.{Devices, Given, Link, Row, accepted, asked, asked_given, asked_link, link_asked, dropped, handed, link_at}
+use Rattle.device_model.specs.Devices.Tables.{Devices, Given, Link, accepted, asked, asked_given, asked_link, link_asked, dropped, handed, link_at}
 use Rattle.device_model.specs.Devices.Endings.{ended_at, served_of}
 use Rattle.device_model.specs.Devices.MoveProofs.{IsMoveProof, IsArrivalProof}
 use Rattle.machine_lemmas.proofs.DeviceServings.{accepted_links, dropped_links}

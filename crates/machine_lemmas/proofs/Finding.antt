@@ -1,7 +1,6 @@
 -- Who is found first: the object that serves, the task that a queue has in front, and the order that a table says.
-use Rattle.std.proofs.Common.{◌≡◌, ℕ, suc, zero, ◌+◌, ◌≤◌, length, Bool, true, false, List, [], ◌∷◌, Option, Some, None, refl, cond, ◌∙◌, ap, sym, subst, arith}
+use Rattle.std.proofs.Common.{◌≡◌, ℕ, ◌+◌, ◌≤◌, length, Bool, true, false, List, [], ◌∷◌, Option, Some, None, refl, cond, ◌∙◌, ap, sym, subst, arith}
 use Rattle.std.specs.Prelude.{slice_set}
-use Rattle.std.specs.Bool.{◌==◌}
 use Rattle.std.specs.List.{find}
 use Rattle.std.specs.Option.{option_map, option_or}
 use Rattle.std.proofs.lemmas.Bool.Decides.{nat_tests}
@@ -14,7 +13,7 @@ use Rattle.kernel_model.specs.LawWords.Once.{times}
 use Rattle.kernel_model.specs.Words.Orders.{entry, taken_from}
 use Rattle.kernel_model.specs.Tasks.Base.{Base, queue, release, task_at, waiting_in, waits_for, waits_in}
 use Rattle.object_model.specs.Servings.{first_serving}
-use Rattle.kernel_lemmas.proofs.Tables.{entry_each, entry_there, itself}
+use Rattle.kernel_lemmas.proofs.Tables.{entry_each, entry_there}
 use Rattle.kernel_lemmas.proofs.Releases.{release_others}
 use Rattle.call_lemmas.proofs.Picks.{apart_from_first, apart_from_rest}
 use Rattle.call_lemmas.proofs.Serving.{queue_absent}

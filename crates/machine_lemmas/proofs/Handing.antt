@@ -1,13 +1,8 @@
 -- Requests that go to their drivers leave nobody to serve: a device has as many unfinished requests as before, nothing has
 -- ended, and no driver has got rid of one.
-use Rattle.std.proofs.Common.{◌≡◌, ℕ, zero, suc, ◌+◌, ◌≤◌, length, Bool, true, false, not, cond, ◌&&◌, ◌||◌, List, [], ◌∷◌, Option, Some, None, refl, ◌∙◌, ap, sym, subst, arith}
-use Rattle.std.specs.Prelude.{count_by, drop, fold, slice_set}
-use Rattle.std.specs.Bool.{◌==◌}
-use Rattle.std.specs.List.{find, list_any}
-use Rattle.std.specs.Option.{is_some}
-use Rattle.kernel_model.specs.Words.Orders.{entry, taken_from, without}
+use Rattle.std.proofs.Common.{◌≡◌, ℕ, zero, suc, length, List, [], ◌∷◌, Option, Some, None, refl, ◌∙◌, ap}
+use Rattle.std.specs.Prelude.{slice_set}
 use Rattle.kernel_model.specs.Tasks.Base.{Base, fifo_queue}
-use Rattle.device_model.specs.declared.rows.Life.TheVariants.{AtDriver}
 use Rattle.device_model.specs.Devices.Tables.{Devices, Given, Link, Row, device_ids, first_queued, handed, handed_first, handed_given, handed_link, handed_row, link_at, row_at}
 use Rattle.device_model.specs.Devices.Handing.{hand_over, handed_all, handed_unless, suspension_object}
 

@@ -1,25 +1,24 @@
 -- A serving of a semaphore, an event flag, a mailbox, a mutex, a message buffer or a memory pool ends a wait, or two, and leaves
 -- the orders of all queues.
-use Rattle.std.proofs.Common.{◌≡◌, ℕ, zero, suc, ◌+◌, ◌-◌, ◌≤◌, length, Bool, true, false, cond, ◌&&◌, List, [], ◌∷◌, Option, Some, None, refl, ◌∙◌, ap, sym, subst, pos, arith}
+use Rattle.std.proofs.Common.{◌≡◌, ℕ, zero, suc, ◌+◌, ◌-◌, ◌≤◌, Bool, true, false, cond, ◌&&◌, List, [], ◌∷◌, Option, Some, None, refl, ◌∙◌, ap, subst, pos, arith}
 use Rattle.std.specs.Prelude.{drop, nat_le, nat_lt, slice_set}
 use Rattle.std.specs.Bool.{◌==◌}
-use Rattle.std.specs.Option.{option_map}
 use Rattle.tk_types.specs.declared.task.Order.{Order}
 use Rattle.tk_types.specs.declared.task.Order.TheVariants.{Fifo}
 use Rattle.kernel_model.specs.declared.objects.Semaphore.{Semaphore}
 use Rattle.kernel_model.specs.declared.objects.EventFlag.{EventFlag}
 use Rattle.kernel_model.specs.Words.Checks.{plain}
-use Rattle.kernel_model.specs.Words.Orders.{entry, taken_from}
-use Rattle.kernel_model.specs.Tasks.Base.{Base, give_bytes, queue, release, waits_for}
+use Rattle.kernel_model.specs.Words.Orders.{taken_from}
+use Rattle.kernel_model.specs.Tasks.Base.{Base, queue, release, waits_for}
 use Rattle.kernel_model.specs.SemFlags.Tables.{SemFlags, SemFlagParts, sem_at, flag_at, sem_object, flag_object, sem_served, flag_served, serve_sem, serve_sem_at, serve_sem_of, serve_flag, serve_flag_at, serve_flag_of, first_served, or_else, serve_sem_flag}
 use Rattle.kernel_model.specs.SemFlags.Orders.{sem_flag_order}
 use Rattle.object_model.specs.declared.mails.Message.{Message}
 use Rattle.object_model.specs.declared.mutexes.Mutex.{Mutex}
 use Rattle.object_model.specs.Mutexes.Tables.{Mutexes, MutexParts, mutex_at, mutex_object, mutex_waiters, serve_mutex, serve_mutex_at, serve_mutex_of, serve_mutexes}
 use Rattle.object_model.specs.Mutexes.Orders.{mutex_order}
-use Rattle.object_model.specs.Mails.Tables.{Mailbox, MessageBuffer, Mails, MailParts, box_object, senders_object, receivers_object, box_at, buffer_at, bytes_of}
+use Rattle.object_model.specs.Mails.Tables.{Mailbox, MessageBuffer, MailParts, box_object, senders_object, receivers_object, box_at, buffer_at, bytes_of}
 use Rattle.object_model.specs.Mails.Boxes.{box_waiters, box_serves, message_answer, message_bytes, serve_box, serve_box_at, serve_mailboxes}
-use Rattle.object_model.specs.Mails.Buffers.{buffer_serves, delivered, first_of, has_space, message_stored, receivers, senders, sender_ended, serve_buffer, serve_buffer_at, serve_buffers, with_messages}
+use Rattle.object_model.specs.Mails.Buffers.{buffer_serves, first_of, has_space, receivers, senders, serve_buffer, serve_buffer_at, serve_buffers}
 use Rattle.object_model.specs.Mails.Orders.{mail_order}
 use Rattle.object_model.specs.Pools.Tables.{FixedPool, VariablePool, PoolParts, size_of, fixed_object, variable_object, fixed_at, variable_at}
 use Rattle.object_model.specs.Pools.Fixed.{fixed_serves, fixed_waiters, free_block, serve_fixed, serve_fixed_at, serve_fixed_pools}

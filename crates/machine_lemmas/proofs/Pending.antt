@@ -1,6 +1,6 @@
 -- What an event does to the ticks and the interrupts that are pending: a step takes at most one tick, and no interrupt comes
 -- to be pending twice.
-use Rattle.std.proofs.Common.{◌≡◌, ℕ, suc, zero, ◌+◌, ◌-◌, Bool, true, false, cond, not, List, [], ◌∷◌, ◌++◌, Option, Some, None, ℤ, pos, refl, ◌∙◌, ap, subst, arith}
+use Rattle.std.proofs.Common.{◌≡◌, ℕ, suc, zero, ◌+◌, ◌-◌, Bool, true, false, cond, List, [], ◌∷◌, Option, Some, None, ℤ, pos, refl, ◌∙◌, ap, subst, arith}
 use Rattle.std.specs.Bool.{◌==◌}
 use Rattle.std.specs.Prelude.{drop, filter, fold, length, slice_set, slice_index}
 use Rattle.std.specs.Ordering.{int_eq}
@@ -26,20 +26,19 @@ use Rattle.kernel_model.specs.Words.Checks.{natural, within}
 use Rattle.kernel_model.specs.Words.Events.{due_event}
 use Rattle.kernel_model.specs.Words.Orders.{without}
 use Rattle.kernel_model.specs.Tasks.Base.{advance, take_due}
-use Rattle.kernel_model.specs.Tasks.Views.{is_current}
 use Rattle.kernel_model.specs.Bodies.Statements.{fetch, give, start_frame}
 use Rattle.context_model.specs.Contexts.Tables.{depth_in, handler_of}
 use Rattle.machine_model.specs.declared.turns.Turn.{Turn}
 use Rattle.machine_model.specs.declared.turns.Turn.TheVariants as turns
 use Rattle.machine_model.specs.States.State.{State, frame_of, with_frame}
-use Rattle.machine_model.specs.Events.Follow.{delays, dispatched, follow_each, follow_release, followed, settled, turned, with_releases}
+use Rattle.machine_model.specs.Events.Follow.{dispatched, follow_each, follow_release, followed, settled, turned, with_releases}
 use Rattle.machine_model.specs.Events.Bodies.{begun, body_returned, entered, noted, returned, undefined, with_start, withdrawn}
 use Rattle.machine_model.specs.Events.Calls.{answered, called, ended_by, family_call, without_holdings}
 use Rattle.machine_model.specs.Events.Ticks.{due_done, fallen, tick}
 use Rattle.machine_model.specs.Events.Handlers.{due_begun, handler_begun, insert_once, interrupt_begun, requested, with_requests}
 use Rattle.machine_lemmas.specs.Taken.{ticks_taken}
 use Rattle.machine_model.specs.Runs.Turns.{acted, done_turn, fell_in, ran, turn_of}
-use Rattle.machine_model.specs.Runs.Step.{is_paced, made_pending, paced, worked}
+use Rattle.machine_model.specs.Runs.Step.{is_paced, made_pending, worked}
 
 -- what is said of the ticks and the interrupts that are pending, and holds where an interrupt is taken back
 pub record IsOfPending (Q : ℕ → List ℕ → Type 0) : Type 0 where

@@ -11,7 +11,7 @@ use Rattle.device_model.specs.Devices.Endings.{DevParts, arrive}
 use Rattle.device_model.specs.Devices.Handing.{any_given, any_queued}
 use Rattle.machine_model.specs.States.Objects.{Parts, dev_parts, with_devices}
 use Rattle.machine_model.specs.States.State.{State, parts_of, state_start, with_parts}
-use Rattle.machine_model.specs.Events.Follow.{Event, delays, dispatched, turned}
+use Rattle.machine_model.specs.Events.Follow.{delays, dispatched, turned}
 use Rattle.machine_model.specs.Events.Arrivals.{after_arrival, arrived}
 use Rattle.machine_model.specs.Runs.Step.{any_unfinished, counted, ended_or_went, handed_if, has_event, is_quiet, needed, needed_or, needed_sync, needs_if, step, step_if, went, with_first_handed, worked}
 use Rattle.machine_model.specs.Runs.Trace.{start}

@@ -1,32 +1,20 @@
 -- What a serving is: the wait of one task ends, or moves from the acceptance of a request to its ending, so that less is left
 -- to serve; the queues keep their orders. What holds through any of these, and through the change of any priority, holds
 -- through settling.
-use Rattle.std.proofs.Common.{◌≡◌, ℕ, zero, suc, ◌+◌, ◌≤◌, length, Bool, true, false, cond, List, [], ◌∷◌, Option, Some, None, refl, ◌∙◌, ap, sym, subst, arith}
-use Rattle.std.specs.Prelude.{drop, fold, nat_lt}
-use Rattle.std.specs.Bool.{◌==◌}
+use Rattle.std.proofs.Common.{◌≡◌, ℕ, ◌≤◌, length, List, [], ◌∷◌, Option, Some, None, refl, ◌∙◌, ap, subst}
+use Rattle.std.specs.Prelude.{nat_lt}
 use Rattle.std.specs.Option.{option_map}
-use Rattle.tk_types.specs.declared.run.Mode.{Mode}
-use Rattle.tk_types.specs.declared.run.Mode.TheVariants as modes
 use Rattle.tk_types.specs.declared.task.Order.{Order}
 use Rattle.tk_types.specs.declared.task.Order.TheVariants.{Fifo}
-use Rattle.kernel_model.specs.Words.Orders.{taken_from}
-use Rattle.kernel_model.specs.Tasks.Base.{Base, current, set_current}
-use Rattle.kernel_model.specs.SemFlags.Tables.{SemFlagParts, serve_sem_flag}
+use Rattle.kernel_model.specs.SemFlags.Tables.{SemFlagParts}
 use Rattle.kernel_model.specs.SemFlags.Orders.{sem_flag_order}
-use Rattle.object_model.specs.Mutexes.Tables.{MutexParts, serve_mutexes}
+use Rattle.object_model.specs.Mutexes.Tables.{MutexParts}
 use Rattle.object_model.specs.Mutexes.Orders.{mutex_order}
-use Rattle.object_model.specs.Mutexes.Priority.{current_of, refresh, resettle}
 use Rattle.object_model.specs.Mails.Tables.{MailParts}
-use Rattle.object_model.specs.Mails.Boxes.{serve_mailboxes}
-use Rattle.object_model.specs.Mails.Buffers.{serve_buffers}
 use Rattle.object_model.specs.Mails.Orders.{mail_order}
 use Rattle.object_model.specs.Pools.Tables.{PoolParts}
-use Rattle.object_model.specs.Pools.Fixed.{serve_fixed_pools}
-use Rattle.object_model.specs.Pools.Variable.{serve_variable_pools}
 use Rattle.object_model.specs.Pools.Orders.{pool_order}
 use Rattle.device_model.specs.Devices.Endings.{DevParts}
-use Rattle.device_model.specs.Devices.Orders.{device_order}
-use Rattle.device_model.specs.Devices.Servings.{serve_acceptances, serve_endings, serve_closes, serve_suspension}
 use Rattle.machine_model.specs.States.Objects.{Objects, Parts, dev_parts, first_serving, kinds, mail_parts, pool_parts, serve_object, with_devices, with_mails, with_mutexes, with_pools, with_sem_flags}
 use Rattle.machine_model.specs.States.Waits.{order_for, or_order}
 use Rattle.machine_lemmas.proofs.Changes.{IsEnding}

@@ -3,7 +3,6 @@
 use Rattle.std.proofs.Common.{◌≡◌, ℕ, zero, suc, Bool, true, false, cond, List, [], ◌∷◌, Option, Some, None, refl, ◌∙◌, ap}
 use Rattle.std.specs.Prelude.{drop}
 use Rattle.std.specs.Bool.{◌==◌}
-use Rattle.std.specs.Option.{option_map}
 use Rattle.std.specs.List.{find}
 use Rattle.tk_types.specs.declared.task.Order.{Order}
 use Rattle.tk_types.specs.declared.task.Order.TheVariants.{Fifo, Priority}
@@ -25,8 +24,8 @@ use Rattle.object_model.specs.Pools.Variable.{block_given, place_in, serve_varia
 use Rattle.device_model.specs.Devices.Tables.{device_ids, wish_of}
 use Rattle.device_model.specs.Devices.Handing.{any_given, suspension_object}
 use Rattle.device_model.specs.Devices.Endings.{DevParts, close_object}
-use Rattle.device_model.specs.Devices.Requests.{acceptance_object, ending_object, has_place, picked}
-use Rattle.device_model.specs.Devices.Servings.{acceptance_by, close_by, closed_unless, ending_claimed, ending_of_first, is_with_driver, serve_acceptance, serve_acceptances, serve_close, serve_closes, serve_ending, serve_endings, serve_suspension, suspended_unless, suspension_by}
+use Rattle.device_model.specs.Devices.Requests.{acceptance_object, has_place, picked}
+use Rattle.device_model.specs.Devices.Servings.{acceptance_by, close_by, closed_unless, ending_of_first, is_with_driver, serve_acceptance, serve_acceptances, serve_close, serve_closes, serve_ending, serve_endings, serve_suspension, suspended_unless, suspension_by}
 use Rattle.machine_model.specs.States.Objects.{Parts, dev_parts, kinds, mail_parts, pool_parts, serve_object}
 use Rattle.machine_lemmas.proofs.HandingServes.{AllKinds, claimed_none, each_kind, first_none_by, mapped_none, no_kind, place_none, unmapped}
 

@@ -1,9 +1,9 @@
 -- What an event keeps. Where something survives every call, every end of a wait, and the little that handlers, ticks and
 -- dispatching change, it survives all that a turn does, all that follows it, the arrival of an ending, and so every state
 -- that a run comes to.
-use Rattle.std.proofs.Common.{◌≡◌, ℕ, suc, zero, ◌+◌, ◌-◌, Bool, true, false, cond, not, List, [], ◌∷◌, ◌++◌, Option, Some, None, ℤ, pos, refl, ap, subst, sym}
+use Rattle.std.proofs.Common.{◌≡◌, ℕ, suc, zero, ◌+◌, ◌-◌, Bool, true, false, cond, List, [], ◌∷◌, Option, Some, None, ℤ, pos, refl}
 use Rattle.std.specs.Bool.{◌==◌}
-use Rattle.std.specs.Prelude.{drop, filter, fold, length, unwrap_or, slice_set, slice_index}
+use Rattle.std.specs.Prelude.{drop, filter, fold, length, slice_set, slice_index}
 use Rattle.std.specs.Ordering.{int_eq}
 use Rattle.tk_types.specs.declared.answer.Answer.{Answer}
 use Rattle.tk_types.specs.declared.answer.Outcome.{Outcome}
@@ -33,8 +33,7 @@ use Rattle.tk_types.specs.declared.task.Flags.{Flags}
 use Rattle.tk_types.specs.declared.task.Release.{Release}
 use Rattle.kernel_model.specs.Words.Checks.{natural, within}
 use Rattle.kernel_model.specs.Words.Events.{due_event}
-use Rattle.kernel_model.specs.Tasks.Base.{Base, advance, chosen, delete, release, set_current, set_flags, take_due}
-use Rattle.kernel_model.specs.Tasks.Views.{is_current}
+use Rattle.kernel_model.specs.Tasks.Base.{advance, chosen, delete, release, set_flags, take_due}
 use Rattle.kernel_model.specs.SemFlags.Calls.{sem_flag_call}
 use Rattle.kernel_model.specs.Bodies.Statements.{fetch, give, start_frame}
 use Rattle.object_model.specs.Mutexes.Tables.{Mutexes, free_last}
@@ -52,17 +51,16 @@ use Rattle.device_model.specs.Devices.Endings.{DevParts, arrive}
 use Rattle.device_model.specs.Devices.Handing.{hand_first}
 use Rattle.machine_model.specs.declared.turns.Turn.{Turn}
 use Rattle.machine_model.specs.declared.turns.Turn.TheVariants as turns
-use Rattle.machine_model.specs.States.Objects.{Parts, dev_parts, mail_parts, pool_parts, serve_object, with_devices, with_mails, with_pools}
-use Rattle.machine_model.specs.States.State.{State, frame_of, parts_of, who_of, with_frame, with_parts}
-use Rattle.machine_model.specs.Events.Settle.{freed, freed_within, settle, with_freed}
-use Rattle.machine_model.specs.Events.Follow.{delays, dispatched, follow_each, follow_release, followed, settled, turned, with_releases}
+use Rattle.machine_model.specs.States.Objects.{Parts, dev_parts, mail_parts, pool_parts, with_devices}
+use Rattle.machine_model.specs.States.State.{State, frame_of, parts_of, who_of, with_frame}
+use Rattle.machine_model.specs.Events.Settle.{freed_within, settle, with_freed}
+use Rattle.machine_model.specs.Events.Follow.{dispatched, follow_each, follow_release, followed, settled, turned, with_releases}
 use Rattle.machine_model.specs.Events.Bodies.{begun, body_returned, entered, handler_ended, noted, returned, undefined, with_start, withdrawn}
 use Rattle.machine_model.specs.Events.Calls.{answered, called, ended_by, family_call, views_of, without_holdings}
 use Rattle.machine_model.specs.Events.Ticks.{due_done, fallen, limit_answer, tick}
 use Rattle.machine_model.specs.Events.Handlers.{due_begun, handler_begun, insert_once, interrupt_begun, requested, with_requests}
-use Rattle.machine_model.specs.Events.Arrivals.{arrived}
 use Rattle.machine_model.specs.Runs.Turns.{acted, done_turn, fell_in, ran, turn_of}
-use Rattle.machine_model.specs.Runs.Step.{is_paced, made_pending, paced, worked}
+use Rattle.machine_model.specs.Runs.Step.{is_paced, made_pending, worked}
 use Rattle.machine_lemmas.proofs.Servings.{FewDevices}
 use Rattle.machine_lemmas.proofs.Settling.{Handed, Refreshed, Served, settle_keeps}
 

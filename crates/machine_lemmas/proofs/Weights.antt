@@ -1,5 +1,5 @@
 -- What settling does to the weight of all waits.
-use Rattle.std.proofs.Common.{◌≡◌, ℕ, suc, zero, ◌+◌, ◌*◌, ◌≤◌, length, Bool, true, false, List, [], ◌∷◌, Option, Some, None, refl, cond, ◌∙◌, ap, sym, subst, ◌&&◌, arith}
+use Rattle.std.proofs.Common.{◌≡◌, ℕ, suc, zero, ◌+◌, ◌*◌, ◌≤◌, length, Bool, true, false, List, [], ◌∷◌, Option, Some, None, refl, cond, ◌∙◌, ap, sym, ◌&&◌, arith}
 use Rattle.std.specs.Prelude.{slice_set, nat_le, nat_lt}
 use Rattle.std.proofs.lemmas.Bool.Decides.{nat_tests}
 use Rattle.tk_types.specs.declared.answer.Answer.{Answer}

@@ -1,5 +1,4 @@
-use Rattle.machine_lemmas.proofs.BaseKept.{slots_are_kept, start_slots}
-use Rattle.machine_lemmas.proofs.Reached.{reached_has}
+use Rattle.machine_lemmas.proofs.ReachedRest.{reached_rest, reached_slots}
 use Rattle.machine_lemmas.proofs.Servings.{serving}
 use Rattle.machine_lemmas.proofs.Settling.{settle_current}
 use Rattle.machine_lemmas.proofs.Rest.{settle_given, settle_settles}
@@ -18,7 +17,13 @@ pub returns-clause-given : goal.returns-clause-given
 returns-clause-given c = settle_given
 
 pub returns-clause-slots : goal.returns-clause-slots
-returns-clause-slots c = λ script mode budget moves runnable. (reached_has _ slots_are_kept script mode budget moves (start_slots script runnable)).base
+returns-clause-slots c = λ script mode budget moves runnable. (reached_slots script mode budget moves runnable).base
 
 pub returns-clause-devices : goal.returns-clause-devices
-returns-clause-devices c = λ script mode budget moves runnable. (reached_has _ slots_are_kept script mode budget moves (start_slots script runnable)).few
+returns-clause-devices c = λ script mode budget moves runnable. (reached_slots script mode budget moves runnable).few
+
+pub returns-clause-reached : goal.returns-clause-reached
+returns-clause-reached c = λ script mode budget moves runnable. (reached_rest script mode budget moves runnable).unserved
+
+pub returns-clause-reached_priorities : goal.returns-clause-reached_priorities
+returns-clause-reached_priorities c = λ script mode budget moves runnable. (reached_rest script mode budget moves runnable).up_to_date
