@@ -1,11 +1,10 @@
 -- Interrupts that are pending stand in strictly rising order, each once, in every state that a machine comes to.
-use Rattle.std.proofs.Common.{◌≡◌, ℕ, ◌+◌, ◌<◌, Bool, true, false, cond, not, ◌&&◌, ◌||◌, List, [], ◌∷◌, Option, Some, None, refl, subst, arith}
+use Rattle.std.proofs.Common.{◌≡◌, ℕ, ◌+◌, ◌<◌, Bool, true, false, cond, not, ◌||◌, List, [], ◌∷◌, Option, Some, None, refl, arith}
 use Rattle.std.specs.Bool.{◌==◌}
 use Rattle.std.specs.Prelude.{filter, fold, nat_lt}
 use Rattle.std.specs.Option.{option_map}
 use Rattle.std.proofs.lemmas.Bool.Decides.{nat_tests}
 use Rattle.tk_types.specs.declared.run.Mode.{Mode}
-use Rattle.tk_types.specs.declared.run.Mode.TheVariants as modes
 use Rattle.tk_types.specs.declared.script.Interrupt.{Interrupt}
 use Rattle.tk_types.specs.declared.script.Script.{Script}
 use Rattle.kernel_model.specs.Words.Orders.{without}
@@ -14,17 +13,17 @@ use Rattle.kernel_model.specs.Tasks.Views.{is_current}
 use Rattle.context_model.specs.Contexts.Tables.{handler_of}
 use Rattle.device_model.specs.declared.messages.Ending.{Ending}
 use Rattle.device_model.specs.Devices.Endings.{DevParts, arrive}
-use Rattle.device_model.specs.Devices.Handing.{any_given, any_queued}
 use Rattle.machine_model.specs.States.Objects.{dev_parts, with_devices}
 use Rattle.machine_model.specs.States.State.{State, parts_of, state_start, with_parts}
 use Rattle.machine_model.specs.Events.Follow.{delays, dispatched, turned}
 use Rattle.machine_model.specs.Events.Arrivals.{after_arrival, arrived}
 use Rattle.machine_model.specs.Events.Handlers.{insert_once, requested, with_requests}
-use Rattle.machine_model.specs.Runs.Step.{any_unfinished, counted, ended_or_went, handed_if, has_event, is_paced, is_quiet, made_pending, needed, needed_or, needed_sync, needs_if, step, step_if, with_first_handed, worked}
+use Rattle.machine_model.specs.Runs.Step.{is_paced, made_pending, step, worked}
 use Rattle.machine_model.specs.Runs.Trace.{start}
 use Rattle.machine_model.specs.Runs.Reached.{Move, Steps, Arrives, after_move, after_offer, after_pace, state_after}
 use Rattle.machine_lemmas.specs.Strict.{AllAbove, IsStrict}
 use Rattle.machine_lemmas.proofs.Pending.{IsOfPending, followed_of, worked_of}
+use Rattle.machine_lemmas.proofs.Reached.{step_is}
 
 -- ---- lists
 
@@ -103,40 +102,9 @@ made_once script n st strict =
 worked_once : (script : Script) (mode : Mode) (n : ℕ) (st : State) → IsStrict st.pending → IsStrict (worked script mode n st).state.pending
 worked_once script mode n st strict = worked_of Once once_pending script mode n st (made_once script n st strict)
 
-went_once : (ends : Bool) (script : Script) (mode : Mode) (budget : ℕ) (st : State) → IsStrict st.pending → IsStrict (after_pace st (ended_or_went ends script mode budget st)).pending
-unfolding counted
-went_once true script mode budget st strict = strict
-went_once false script mode budget st strict = worked_once script mode (st.steps + 1) st strict
-
-needs_once : (test : Bool) (st now : State) → IsStrict st.pending → needs_if test st ≡ Some now → IsStrict now.pending
-needs_once true st now strict is = let e : st ≡ now = cc is in subst (λ (it : State). IsStrict it.pending) e strict
-needs_once false st now strict is = absurd (cc is)
-
-handed_once : (test : Bool) (st now : State) → IsStrict st.pending → handed_if test st ≡ Some now → IsStrict now.pending
-handed_once true st now strict is = let e : with_first_handed st ≡ now = cc is in subst (λ (it : State). IsStrict it.pending) e strict
-handed_once false st now strict is = absurd (cc is)
-
-sync_once : (given : Bool) (st now : State) → IsStrict st.pending → needed_sync given st ≡ Some now → IsStrict now.pending
-sync_once true st now strict is = let e : st ≡ now = cc is in subst (λ (it : State). IsStrict it.pending) e strict
-sync_once false st now strict is = handed_once (any_queued st.objects.devices) st now strict is
-
-waiting_once : (mode : Mode) (event : Bool) (st now : State) → IsStrict st.pending → needed mode event st ≡ Some now → IsStrict now.pending
-waiting_once modes.Sync event st now strict is = sync_once (any_given st.objects.devices) st now strict is
-waiting_once modes.Free event st now strict is = needs_once (not event && any_given st.objects.devices) st now strict is
-
-needed_once : (waiting : Option State) (event : Bool) (script : Script) (mode : Mode) (budget : ℕ) (st : State) → ((now : State) → waiting ≡ Some now → IsStrict now.pending) → IsStrict st.pending → IsStrict (after_pace st (needed_or waiting event script mode budget st)).pending
-needed_once (Some now) event script mode budget st waits strict = waits now refl
-needed_once None event script mode budget st waits strict = went_once (not event && not (any_unfinished st.objects.devices)) script mode budget st strict
-
-quiet_once : (quiet : Bool) (script : Script) (mode : Mode) (budget : ℕ) (st : State) → IsStrict st.pending → IsStrict (after_pace st (step_if quiet script mode budget st)).pending
-quiet_once true script mode budget st strict =
-    let event : Bool = has_event script (st.steps + 1) st in
-    needed_once (needed mode event st) event script mode budget st (λ now is. waiting_once mode event st now strict is) strict
-quiet_once false script mode budget st strict = went_once false script mode budget st strict
-
 step_once : (script : Script) (mode : Mode) (budget : ℕ) (st : State) → IsStrict st.pending → IsStrict (after_pace st (step script mode budget st)).pending
-unfolding step
-step_once script mode budget st strict = quiet_once (is_quiet st) script mode budget st strict
+step_once script mode budget st strict =
+    step_is (λ (now : State). IsStrict now.pending) script mode budget st strict (λ sync. strict) (worked_once script mode (st.steps + 1) st strict)
 
 offered_once : (script : Script) (mode : Mode) (st : State) (e : Ending) (parts : Option DevParts) → IsStrict st.pending → IsStrict (after_offer st (option_map (after_arrival script mode (st.steps + 1) st e) parts)).pending
 offered_once script mode st e None strict = strict

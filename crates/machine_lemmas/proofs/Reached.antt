@@ -13,53 +13,59 @@ use Rattle.machine_model.specs.States.Objects.{Parts, dev_parts, with_devices}
 use Rattle.machine_model.specs.States.State.{State, parts_of, state_start, with_parts}
 use Rattle.machine_model.specs.Events.Follow.{delays, dispatched, turned}
 use Rattle.machine_model.specs.Events.Arrivals.{after_arrival, arrived}
-use Rattle.machine_model.specs.Runs.Step.{any_unfinished, counted, ended_or_went, handed_if, has_event, is_quiet, needed, needed_or, needed_sync, needs_if, step, step_if, went, with_first_handed, worked}
+use Rattle.machine_model.specs.Runs.Step.{any_unfinished, counted, ended_or_went, handed_if, has_event, is_quiet, needed, needed_or, needed_sync, needs_if, step, step_if, with_first_handed, worked}
 use Rattle.machine_model.specs.Runs.Trace.{start}
 use Rattle.machine_model.specs.Runs.Reached.{Move, Steps, Arrives, after_move, after_offer, after_pace, state_after}
 use Rattle.machine_lemmas.proofs.Walk.{Has, IsKept, kept_followed, kept_worked}
 
--- ---- one step
+-- ---- what holds of a state, of it after what is done at a step, and of it once a request was handed out in sync mode, holds
+-- after a step
 
--- what holds where a step is done holds after it, and where an ending is needed, once a request was handed
-went_has : (P : Parts → Type 0) (script : Script) (mode : Mode) (budget : ℕ) (st : State) → Has P (worked script mode (st.steps + 1) st).state → Has P (after_pace st (went script mode budget st))
+abbrev Stepped : (State → Type 0) → Script → Mode → State → Type 0
+Stepped Q script mode st = Q (record (worked script mode (st.steps + 1) st).state { steps = st.steps + 1 })
+
+went_is : (Q : State → Type 0) (ends : Bool) (script : Script) (mode : Mode) (budget : ℕ) (st : State) → Q st → Stepped Q script mode st → Q (after_pace st (ended_or_went ends script mode budget st))
 unfolding counted
-went_has P script mode budget st has = has
+went_is Q true script mode budget st has works = has
+went_is Q false script mode budget st has works = works
 
-ended_has : (P : Parts → Type 0) (ends : Bool) (script : Script) (mode : Mode) (budget : ℕ) (st : State) → Has P st → Has P (worked script mode (st.steps + 1) st).state → Has P (after_pace st (ended_or_went ends script mode budget st))
-ended_has P true script mode budget st has works = has
-ended_has P false script mode budget st has works = went_has P script mode budget st works
+needed_is : (Q : State → Type 0) (waiting : Option State) (event : Bool) (script : Script) (mode : Mode) (budget : ℕ) (st : State) → ((now : State) → waiting ≡ Some now → Q now) →
+    Q st → Stepped Q script mode st → Q (after_pace st (needed_or waiting event script mode budget st))
+needed_is Q (Some now) event script mode budget st waits has works = waits now refl
+needed_is Q None event script mode budget st waits has works = went_is Q (not event && not (any_unfinished st.objects.devices)) script mode budget st has works
 
-needed_has : (P : Parts → Type 0) (waiting : Option State) (event : Bool) (script : Script) (mode : Mode) (budget : ℕ) (st : State) → ((now : State) → waiting ≡ Some now → Has P now) → Has P st →
-    Has P (worked script mode (st.steps + 1) st).state → Has P (after_pace st (needed_or waiting event script mode budget st))
-needed_has P (Some now) event script mode budget st waits has works = waits now refl
-needed_has P None event script mode budget st waits has works = ended_has P (not event && not (any_unfinished st.objects.devices)) script mode budget st has works
+needs_is : (Q : State → Type 0) (test : Bool) (st now : State) → Q st → needs_if test st ≡ Some now → Q now
+needs_is Q true st now has is = let e : st ≡ now = cc is in subst Q e has
+needs_is Q false st now has is = absurd (cc is)
 
-needs_has : (P : Parts → Type 0) (test : Bool) (st now : State) → Has P st → needs_if test st ≡ Some now → Has P now
-needs_has P true st now has is = let e : st ≡ now = cc is in subst (Has P) e has
-needs_has P false st now has is = absurd (cc is)
+handed_is : (Q : State → Type 0) (test : Bool) (st now : State) → Q (with_first_handed st) → handed_if test st ≡ Some now → Q now
+handed_is Q true st now has is = let e : with_first_handed st ≡ now = cc is in subst Q e has
+handed_is Q false st now has is = absurd (cc is)
 
-handed_has : (P : Parts → Type 0) → IsKept P → (test : Bool) (st now : State) → Has P st → handed_if test st ≡ Some now → Has P now
-handed_has P kept true st now has is = let e : with_first_handed st ≡ now = cc is in subst (Has P) e (kept.handed_first (parts_of st) has)
-handed_has P kept false st now has is = absurd (cc is)
+sync_is : (Q : State → Type 0) (given : Bool) (st now : State) → Q st → Q (with_first_handed st) → needed_sync given st ≡ Some now → Q now
+sync_is Q true st now has hands is = let e : st ≡ now = cc is in subst Q e has
+sync_is Q false st now has hands is = handed_is Q (any_queued st.objects.devices) st now hands is
 
-sync_has : (P : Parts → Type 0) → IsKept P → (given : Bool) (st now : State) → Has P st → needed_sync given st ≡ Some now → Has P now
-sync_has P kept true st now has is = let e : st ≡ now = cc is in subst (Has P) e has
-sync_has P kept false st now has is = handed_has P kept (any_queued st.objects.devices) st now has is
+waiting_is : (Q : State → Type 0) (mode : Mode) (event : Bool) (st now : State) → Q st → (mode ≡ modes.Sync → Q (with_first_handed st)) → needed mode event st ≡ Some now → Q now
+waiting_is Q modes.Sync event st now has hands is = sync_is Q (any_given st.objects.devices) st now has (hands refl) is
+waiting_is Q modes.Free event st now has hands is = needs_is Q (not event && any_given st.objects.devices) st now has is
 
-waiting_has : (P : Parts → Type 0) → IsKept P → (mode : Mode) (event : Bool) (st now : State) → Has P st → needed mode event st ≡ Some now → Has P now
-waiting_has P kept modes.Sync event st now has is = sync_has P kept (any_given st.objects.devices) st now has is
-waiting_has P kept modes.Free event st now has is = needs_has P (not event && any_given st.objects.devices) st now has is
-
-step_cases : (P : Parts → Type 0) → IsKept P → (quiet : Bool) (script : Script) (mode : Mode) (budget : ℕ) (st : State) → Has P st → Has P (worked script mode (st.steps + 1) st).state → Has P (after_pace st (step_if quiet script mode budget st))
-step_cases P kept true script mode budget st has works =
+quiet_is : (Q : State → Type 0) (quiet : Bool) (script : Script) (mode : Mode) (budget : ℕ) (st : State) → Q st → (mode ≡ modes.Sync → Q (with_first_handed st)) → Stepped Q script mode st →
+    Q (after_pace st (step_if quiet script mode budget st))
+quiet_is Q true script mode budget st has hands works =
     let event : Bool = has_event script (st.steps + 1) st in
-    needed_has P (needed mode event st) event script mode budget st (λ now is. waiting_has P kept mode event st now has is) has works
-step_cases P kept false script mode budget st has works = went_has P script mode budget st works
+    needed_is Q (needed mode event st) event script mode budget st (λ now is. waiting_is Q mode event st now has hands is) has works
+quiet_is Q false script mode budget st has hands works = went_is Q false script mode budget st has works
+
+-- what holds in each of these cases holds after a step
+pub step_is : (Q : State → Type 0) (script : Script) (mode : Mode) (budget : ℕ) (st : State) → Q st → (mode ≡ modes.Sync → Q (with_first_handed st)) →
+    Q (record (worked script mode (st.steps + 1) st).state { steps = st.steps + 1 }) → Q (after_pace st (step script mode budget st))
+unfolding step
+step_is Q script mode budget st has hands works = quiet_is Q (is_quiet st) script mode budget st has hands works
 
 -- what holds of a state, and after a step is done on it, holds after a step, also where nothing is done
 pub step_has : (P : Parts → Type 0) → IsKept P → (script : Script) (mode : Mode) (budget : ℕ) (st : State) → Has P st → Has P (worked script mode (st.steps + 1) st).state → Has P (after_pace st (step script mode budget st))
-unfolding step
-step_has P kept script mode budget st has works = step_cases P kept (is_quiet st) script mode budget st has works
+step_has P kept script mode budget st has works = step_is (Has P) script mode budget st has (λ sync. kept.handed_first (parts_of st) has) works
 
 -- ---- one ending
 

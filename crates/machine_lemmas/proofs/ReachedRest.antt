@@ -1,5 +1,5 @@
 -- Every state that a machine comes to is at rest.
-use Rattle.std.proofs.Common.{◌≡◌, ℕ, zero, suc, ◌+◌, Bool, true, false, not, ◌&&◌, ◌||◌, List, [], ◌∷◌, Option, Some, None, refl, ◌∙◌, ap, sym, subst, arith}
+use Rattle.std.proofs.Common.{◌≡◌, ℕ, zero, suc, ◌+◌, true, ◌||◌, List, [], ◌∷◌, Option, Some, None, refl, ◌∙◌, ap, sym, arith}
 use Rattle.std.specs.Prelude.{replicate, slice_set}
 use Rattle.std.specs.Option.{option_map}
 use Rattle.tk_types.specs.declared.run.Mode.{Mode}
@@ -16,7 +16,6 @@ use Rattle.object_model.specs.declared.mutexes.Mutex.{Mutex}
 use Rattle.object_model.specs.Mutexes.Tables.{mutexes_start, owner_in}
 use Rattle.device_model.specs.declared.messages.Ending.{Ending}
 use Rattle.device_model.specs.Devices.Endings.{DevParts, arrive}
-use Rattle.device_model.specs.Devices.Handing.{any_given, any_queued}
 use Rattle.device_model.specs.Devices.Tables.{Devices, devices_start}
 use Rattle.machine_model.specs.States.Objects.{Parts, dev_parts, serve_object, with_devices}
 use Rattle.machine_model.specs.States.State.{State, parts_of, state_start, with_parts}
@@ -24,17 +23,17 @@ use Rattle.machine_model.specs.Events.Settle.{handed}
 use Rattle.machine_model.specs.Events.Follow.{delays, dispatched}
 use Rattle.machine_model.specs.Events.Arrivals.{after_arrival, arrived}
 use Rattle.machine_model.specs.Events.Rest.{AreUpToDate, IsAtRest}
-use Rattle.machine_model.specs.Runs.Step.{any_unfinished, counted, ended_or_went, handed_if, has_event, is_quiet, made_pending, needed, needed_or, needed_sync, needs_if, step, step_if, with_first_handed, worked}
+use Rattle.machine_model.specs.Runs.Step.{made_pending, with_first_handed, worked}
 use Rattle.machine_model.specs.Runs.Trace.{start}
 use Rattle.machine_model.specs.Runs.Turns.{done_turn, turn_of}
-use Rattle.machine_model.specs.Runs.Reached.{Move, Steps, Arrives, after_move, after_offer, after_pace, state_after}
+use Rattle.machine_model.specs.Runs.Reached.{Move, Steps, Arrives, after_move, after_offer, state_after}
 use Rattle.kernel_lemmas.proofs.Tables.{entry_each, entry_same, none_there}
 use Rattle.mutex_laws.proofs.Unowned.{current_unowned}
 use Rattle.machine_lemmas.specs.Weights.{weight}
 use Rattle.machine_lemmas.proofs.BaseKept.{HasSlots, slots_are_kept, start_slots}
 use Rattle.machine_lemmas.proofs.HandedTwice.{hand_over_none}
 use Rattle.machine_lemmas.proofs.HandingServes.{handed_first_none}
-use Rattle.machine_lemmas.proofs.Reached.{reached_has, start_has}
+use Rattle.machine_lemmas.proofs.Reached.{reached_has, start_has, step_is}
 use Rattle.machine_lemmas.proofs.Rest.{HasSettled, followed_rest, turned_dispatched, turned_settled, turned_taken}
 use Rattle.machine_lemmas.proofs.Settling.{none_waiting}
 use Rattle.machine_lemmas.proofs.Walk.{kept_first}
@@ -145,51 +144,6 @@ first_handed_rest st rest = record {
   followed = rest.followed;
   dispatched = rest.dispatched;
 }
-
--- ---- what holds of a state, of it after what is done at a step, and of it once a request was handed out in sync mode, holds
--- after a step
-
-abbrev Stepped : (State → Type 0) → Script → Mode → State → Type 0
-Stepped Q script mode st = Q (record (worked script mode (st.steps + 1) st).state { steps = st.steps + 1 })
-
-went_is : (Q : State → Type 0) (ends : Bool) (script : Script) (mode : Mode) (budget : ℕ) (st : State) → Q st → Stepped Q script mode st → Q (after_pace st (ended_or_went ends script mode budget st))
-unfolding counted
-went_is Q true script mode budget st has works = has
-went_is Q false script mode budget st has works = works
-
-needed_is : (Q : State → Type 0) (waiting : Option State) (event : Bool) (script : Script) (mode : Mode) (budget : ℕ) (st : State) → ((now : State) → waiting ≡ Some now → Q now) →
-    Q st → Stepped Q script mode st → Q (after_pace st (needed_or waiting event script mode budget st))
-needed_is Q (Some now) event script mode budget st waits has works = waits now refl
-needed_is Q None event script mode budget st waits has works = went_is Q (not event && not (any_unfinished st.objects.devices)) script mode budget st has works
-
-needs_is : (Q : State → Type 0) (test : Bool) (st now : State) → Q st → needs_if test st ≡ Some now → Q now
-needs_is Q true st now has is = let e : st ≡ now = cc is in subst Q e has
-needs_is Q false st now has is = absurd (cc is)
-
-handed_is : (Q : State → Type 0) (test : Bool) (st now : State) → Q (with_first_handed st) → handed_if test st ≡ Some now → Q now
-handed_is Q true st now has is = let e : with_first_handed st ≡ now = cc is in subst Q e has
-handed_is Q false st now has is = absurd (cc is)
-
-sync_is : (Q : State → Type 0) (given : Bool) (st now : State) → Q st → Q (with_first_handed st) → needed_sync given st ≡ Some now → Q now
-sync_is Q true st now has hands is = let e : st ≡ now = cc is in subst Q e has
-sync_is Q false st now has hands is = handed_is Q (any_queued st.objects.devices) st now hands is
-
-waiting_is : (Q : State → Type 0) (mode : Mode) (event : Bool) (st now : State) → Q st → (mode ≡ modes.Sync → Q (with_first_handed st)) → needed mode event st ≡ Some now → Q now
-waiting_is Q modes.Sync event st now has hands is = sync_is Q (any_given st.objects.devices) st now has (hands refl) is
-waiting_is Q modes.Free event st now has hands is = needs_is Q (not event && any_given st.objects.devices) st now has is
-
-quiet_is : (Q : State → Type 0) (quiet : Bool) (script : Script) (mode : Mode) (budget : ℕ) (st : State) → Q st → (mode ≡ modes.Sync → Q (with_first_handed st)) → Stepped Q script mode st →
-    Q (after_pace st (step_if quiet script mode budget st))
-quiet_is Q true script mode budget st has hands works =
-    let event : Bool = has_event script (st.steps + 1) st in
-    needed_is Q (needed mode event st) event script mode budget st (λ now is. waiting_is Q mode event st now has hands is) has works
-quiet_is Q false script mode budget st has hands works = went_is Q false script mode budget st has works
-
--- what holds in each of these cases holds after a step
-pub step_is : (Q : State → Type 0) (script : Script) (mode : Mode) (budget : ℕ) (st : State) → Q st → (mode ≡ modes.Sync → Q (with_first_handed st)) →
-    Q (record (worked script mode (st.steps + 1) st).state { steps = st.steps + 1 }) → Q (after_pace st (step script mode budget st))
-unfolding step
-step_is Q script mode budget st has hands works = quiet_is Q (is_quiet st) script mode budget st has hands works
 
 -- ---- moves
 
