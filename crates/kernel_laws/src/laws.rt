@@ -50,8 +50,7 @@ pub fn the_ready_list_is_in_order()
 
 /// A task that is preempted keeps its place: a task that makes a call on tasks and stays ready, with the priority that it
 /// has, stays the first of its equals, unless the call gives its place away by what it means. So does one that makes a
-/// call on semaphores and event flags and stays ready, none of which gives its place away. Neither a dispatch nor the end
-/// of a wait changes that.
+/// call on semaphores and event flags and stays ready. Neither a dispatch nor the end of a wait changes that.
 pub fn preempted_task_keeps_its_place()
     ensures call { (b : Base) (t : ℕ) (call : TaskCall) → KeepsPlace b t → is_ready b t ≡ true →
         gives_place_away t call ≡ false →
