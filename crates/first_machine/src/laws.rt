@@ -30,10 +30,9 @@ ghost use Rattle.first_machine.specs.Trace.{start, state_after};
 ghost use Rattle.kernel_model.specs.SemFlags.Trial.{MayWait};
 ghost use Rattle.kernel_model.specs.LawWords.Waiters.{waiting_count};
 
-/// A task that is preempted keeps its place: a task that makes a call and stays ready, with the priority that it
-/// has, stays the first of its equals, unless the call gives its place away by what it means, which none on semaphores
-/// and event flags does. Neither a dispatch to another task, nor the end of another one's wait, nor settling, whatever
-/// becomes of others' priorities and whoever is served, nor a whole tick changes that.
+/// A task that is preempted keeps its place: one that is ready, is the first of its equals, and whose current priority is
+/// that of its definition, stays the first of its equals through settling, whatever becomes of others' priorities and
+/// whoever is served, and through a whole tick.
 pub fn preempted_task_keeps_its_place()
     ensures settled { (st : State) (t : ℕ) → KeepsPlace st.base t → is_ready st.base t ≡ true →
         current st.base t ≡ current_of st.base t → KeepsPlace (settle st).base t }
@@ -41,11 +40,10 @@ pub fn preempted_task_keeps_its_place()
         current st.base t ≡ current_of st.base t → KeepsPlace (tick_state st).base t }
 {}
 
-/// A time-out falls due in its tick: a wait with a limit of n milliseconds that begins at a time is set for that time
-/// and n + 1. While no more than n have passed it isn't what is due; with one more it is, where nothing else comes
-/// first. So through n ticks the task waits on, where nothing serves its wait, as in a sleep or a delay: the objects from
-/// 64 on are semaphores and event flags, and a wait for one of those may be served meanwhile. With the next tick the wait
-/// is over, whatever it is for.
+/// A wait with a limit is over in its tick: through n ticks a task whose wait began with a limit of n milliseconds waits
+/// on, where nothing serves its wait, as in a sleep or a delay: the objects from 64 on are semaphores and event flags,
+/// and a wait for one of those may be served meanwhile. With the next tick the wait is over, whatever it is for, where
+/// what was set before stood in the order of its times.
 pub fn time_outs_fall_due_in_their_tick()
     ensures waits_on { (st : State) (t object : ℕ) (order : Order) (n passed : ℕ) (k : Task) → task_at st.base t ≡ Some k → object < 64 → passed ≤ n →
         is_waiting (after_ticks passed (record st { base = make_wait st.base t object order (pos n) })).base t ≡ true }
@@ -53,10 +51,11 @@ pub fn time_outs_fall_due_in_their_tick()
         is_waiting (after_ticks (suc n) (record st { base = make_wait st.base t object order (pos n) })).base t ≡ false }
 {}
 
-/// A tick ends the waits whose time has come, and otherwise only those that are served: one that makes an earlier time
-/// than that of a wait's end, and every tick where a wait has no limit, leaves it set and its task waiting, or the task is
-/// served, which ends a wait for an object from 64 on alone, a semaphore or an event flag. A tick that makes the time of a
-/// wait's end ends the wait.
+/// A tick ends the waits whose time has come, and otherwise only those that are served. One that makes an earlier time
+/// than that of a wait's end, and every tick where a wait has no limit, leaves it set, and its task waiting for the same
+/// object, where that is below 64; and for whatever a task waits, its end stays set and it waits on, or it no longer
+/// waits. A tick that makes the time of a wait's end, or a later one, ends the wait, where what is set stands in the
+/// order of its times.
 pub fn a_tick_ends_the_waits_whose_time_has_come()
     ensures stays_set { (st : State) (t object : ℕ) → waits_for st.base object t ≡ true → object < 64 →
         ComesAfter (st.base.time + 1) (limit_of t st.base.events) →
@@ -71,30 +70,28 @@ pub fn a_tick_ends_the_waits_whose_time_has_come()
         is_waiting (tick_state st).base t ≡ false }
 {}
 
-/// What is set falls due in order: nothing is due while all that is set is later, and the first is once its time has
-/// come. What is set takes its place behind all that falls due by its time, so that of equals the one made first comes
-/// first, and what was in order stays so. A tick leaves nothing that falls due by the time that it makes, and the rest
-/// in order.
+/// What is set stands in order: what takes its place among events that stand in the order of their times leaves them so,
+/// and so does a tick, which leaves nothing that falls due by the time that it makes.
 pub fn events_fall_due_in_order()
     ensures set_in_order { (event : DueEvent) (events : List DueEvent) → AreInTimeOrder events → AreInTimeOrder (insert_event event events) }
     ensures tick_in_order { (st : State) → AreInTimeOrder st.base.events → AreInTimeOrder (tick_state st).base.events }
     ensures tick { (st : State) → AreInTimeOrder st.base.events → AreLater (st.base.time + 1) (tick_state st).base.events }
 {}
 
-/// Priorities change by `tk_chg_pri` alone: where each task's current priority is that of its definition, it still is after
-/// any other call of a task, so that settling has none to take over.
+/// Priorities change by `tk_chg_pri` alone: where each task's current priority is that of its definition, it still is
+/// after any other call of a task. The IDs of tasks begin at 1.
 pub fn priorities_change_by_one_call()
     ensures { (n : ℕ) (st : State) (t : ℕ) (call : Call) → changes_priority call ≡ false →
         ((u : ℕ) → 1 ≤ u → current st.base u ≡ current_of st.base u) →
         (u : ℕ) → 1 ≤ u → current (called n st t call).state.base u ≡ current_of (called n st t call).state.base u }
 {}
 
-/// A waiting call does what the paragraph on waiting calls says, with the whole of settling: the caller joins the waiters,
-/// and settling follows; if that ended the caller's wait the call returns and the caller has its old stamp, and if not,
-/// with a time-out of 0 everything is as before the call and the answer is E_TMOUT, and else the task waits. That holds on
-/// every settled state: nobody can be served, and each current priority is that of its definition. The caller is ready and
-/// has a place in the table of what tasks ask for; the table of semaphores has 65 slots at most, so that none has the
-/// number of an event flag, and the IDs of objects and tasks begin at 1.
+/// A waiting call does what the paragraph on waiting calls says, with the whole of settling: the caller joins the
+/// waiters, and settling follows; if that ended the caller's wait the call returns and the caller has its old stamp, and
+/// if not, with a time-out of 0 everything is as before the call and the answer is E_TMOUT, and else the task waits. That
+/// holds on every settled state: nobody can be served, and each current priority is that of its definition. The caller is
+/// ready, no end of a wait is set for it, and it has a place in the table of what tasks ask for; the table of semaphores
+/// has 65 slots at most, so that none has the number of an event flag, and the IDs of objects and tasks begin at 1.
 pub fn a_waiting_call_is_the_paragraph()
     ensures semaphore { (st : State) (t id n : ℕ) (timeout : ℤ) (k : Semaphore) → MayWait st.base t →
         sem_at st.objects.sem_flags id ≡ Some k → 1 ≤ id → length st.objects.sem_flags.sems ≤ 65 → t < length st.objects.sem_flags.counts →
@@ -107,11 +104,9 @@ pub fn a_waiting_call_is_the_paragraph()
 {}
 
 /// After settling nobody can be served: neither a semaphore nor an event flag has a waiter whose wait it could end. That
-/// holds after any settling over a table of up to 256 slots, and in every state that a run reaches, since what follows
-/// settling in a step changes nothing that a serving reads. Each serving ends one wait and no more, so that one task fewer
-/// waits than before, and taking over a changed priority ends and begins none; so as many servings as there are slots are
-/// enough. Each task's current priority is that of its definition then, and in every state that a run reaches; the IDs of
-/// tasks begin at 1.
+/// holds after any settling over a table of up to 256 slots, and in every state that a run reaches. Each serving ends one
+/// wait and no more, so that one task fewer waits than before. Each task's current priority is that of its definition
+/// after any settling, and in every state that a run reaches; the IDs of tasks begin at 1.
 pub fn settling_serves_until_none_can_be()
     ensures semaphore { (b : Base) (s : SemFlags) (id : ℕ) (parts : SemFlagParts) → serve_sem b s id ≡ Some parts →
         waiting_count b ≡ waiting_count parts.base + 1 }
@@ -125,9 +120,9 @@ pub fn settling_serves_until_none_can_be()
         current (state_after script budget n).base t ≡ current_of (state_after script budget n).base t }
 {}
 
-/// From a state at rest nothing follows: where it has settled, no end of a wait is left to take, and the chosen task is the
-/// current one, an event that touched neither the base nor the objects is followed by no change and no line. The start is at
-/// rest, and all that follows an event leaves a state at rest.
+/// From a state at rest nothing follows: where it has settled, no end of a wait is left to take, and the chosen task is
+/// the current one, no change and no line follows an event that left it so. The start is at rest, and all that follows an
+/// event leaves a state at rest, where the table of tasks has up to 256 slots.
 pub fn nothing_follows_from_a_state_at_rest()
     ensures nothing { (script : Script) (n : ℕ) (st : State) → IsAtRest st.base st.objects →
         followed script n st ≡ record { state = st; lines = [] } }

@@ -31,15 +31,16 @@ ghost use Rattle.kernel_model.specs.LawWords.TimeOrder.{AreDueBy, AreLater, afte
 ghost use Rattle.kernel_model.specs.SemFlags.Trial.{MayWait, flag_trial, sem_trial};
 ghost use Rattle.kernel_model.specs.LawWords.Waiters.{waiting_count};
 
-/// Dispatching chooses the ready task of the highest priority, and of equals the one whose stamp is the
-/// earliest; where no task is ready it chooses none.
+/// Dispatching chooses the ready task of the highest priority, and of equals the one whose stamp is the earliest; where
+/// no task is ready it chooses none.
 pub fn dispatch_chooses_the_first()
     ensures first { (b : Base) (t : ℕ) → Precedes b t → chosen b ≡ t }
     ensures none { (b : Base) → NoneReady (is_ready b) b.order → chosen b ≡ 0 }
 {}
 
-/// The list of the ready tasks is in rising order of their priorities; each task of the order that is ready stands in it
-/// as often as there, which is once, and no other does; and those of one priority stand in the order of their stamps.
+/// The list of the ready tasks is in rising order of their priorities; each task that is ready stands in it as often as
+/// in the order of stamps, and no other does, so that each stands in it once at most where that is so of the order; and
+/// those of one priority stand in the order of their stamps.
 pub fn the_ready_list_is_in_order()
     ensures rising { (b : Base) → IsRisingBy (current b) (ready_list b) }
     ensures stands { (b : Base) (t : ℕ) → times t (ready_list b) ≡ (if is_ready b t then times t b.order else 0) }
@@ -47,10 +48,9 @@ pub fn the_ready_list_is_in_order()
     ensures equals { (b : Base) (priority : ℕ) → filter (λ t. current b t == priority) (ready_list b) ≡ ready_of b priority }
 {}
 
-/// A task that is preempted keeps its place: a task that makes a call and stays ready, with the priority that it
-/// has, stays the first of its equals, unless the call gives its place away by what it means, which none on semaphores
-/// and event flags does. Neither a dispatch to another task, nor the end of another one's wait, nor settling, whatever
-/// becomes of others' priorities and whoever is served, nor a whole tick changes that.
+/// A task that is preempted keeps its place: a task that makes a call on tasks and stays ready, with the priority that it
+/// has, stays the first of its equals, unless the call gives its place away by what it means. So does one that makes a
+/// call on semaphores and event flags and stays ready. Neither a dispatch nor the end of a wait changes that.
 pub fn preempted_task_keeps_its_place()
     ensures call { (b : Base) (t : ℕ) (call : TaskCall) → KeepsPlace b t → is_ready b t ≡ true →
         gives_place_away t call ≡ false →
@@ -65,8 +65,8 @@ pub fn preempted_task_keeps_its_place()
         KeepsPlace (release b u result) t }
 {}
 
-/// A task that becomes ready takes the latest stamp, so that every other ready task of its priority stands before
-/// it: when it is started, when its wait ends, and when the last of its suspensions is taken off.
+/// A task that becomes ready takes the latest stamp, so that every other one stands before it: when it is made ready and
+/// when its wait ends, where it isn't suspended, and when the last of its suspensions is taken off while it doesn't wait.
 pub fn released_task_stands_last()
     ensures started { (b : Base) (t : ℕ) (k : Task) → task_at b t ≡ Some k → k.suspensions ≡ 0 →
         StandsLast (make_ready b t) t }
@@ -76,11 +76,9 @@ pub fn released_task_stands_last()
         0 < k.suspensions → suspensions_of (resume b t all) t ≡ 0 → StandsLast (resume b t all) t }
 {}
 
-/// A time-out falls due in its tick: a wait with a limit of n milliseconds that begins at a time is set for that time
-/// and n + 1. While no more than n have passed it isn't what is due; with one more it is, where nothing else comes
-/// first. So through n ticks the task waits on, where nothing serves its wait, as in a sleep or a delay: the objects from
-/// 64 on are semaphores and event flags, and a wait for one of those may be served meanwhile. With the next tick the wait
-/// is over, whatever it is for.
+/// A time-out falls due in its tick: a wait with a limit of n milliseconds that begins at a time is set for that time and
+/// n + 1. While no more than n have passed, and nothing was taken meanwhile, it isn't what is due; with one more it is,
+/// where all that was set before is later.
 pub fn time_outs_fall_due_in_their_tick()
     ensures limit { (b : Base) (t object : ℕ) (order : Order) (n : ℕ) (k : Task) → task_at b t ≡ Some k →
         limit_of t (make_wait b t object order (pos n)).events ≡ Some (b.time + n + 1) }
@@ -93,9 +91,8 @@ pub fn time_outs_fall_due_in_their_tick()
 {}
 
 /// What is set falls due in order: nothing is due while all that is set is later, and the first is once its time has
-/// come. What is set takes its place behind all that falls due by its time, so that of equals the one made first comes
-/// first, and what was in order stays so. A tick leaves nothing that falls due by the time that it makes, and the rest
-/// in order.
+/// come. What is set takes its place behind all that falls due by its time, and in front of all that is later, so that of
+/// equals the one made first comes first.
 pub fn events_fall_due_in_order()
     ensures none { (now : ℕ) (events : List DueEvent) → AreLater now events → due_event now events ≡ None }
     ensures first { (now : ℕ) (first : DueEvent) (rest : List DueEvent) → first.time ≤ now → due_event now (first ∷ rest) ≡ Some first.what }
@@ -104,7 +101,7 @@ pub fn events_fall_due_in_order()
 {}
 
 /// A call on tasks, or on semaphores and event flags, that is refused changes nothing: where a call answers a negative
-/// value, which is an error, all that the kernel keeps is as it was.
+/// value, which is an error, the base is as it was, and so are the tables of semaphores and event flags.
 pub fn a_call_that_is_refused_changes_nothing()
     ensures tasks { (b : Base) (who : Who) (call : TaskCall) (answer : Answer) → (task_call b who call).outcome ≡ Returned answer →
         is_negative answer.value ≡ true → (task_call b who call).base ≡ b }
@@ -113,7 +110,7 @@ pub fn a_call_that_is_refused_changes_nothing()
 {}
 
 /// A release ends one wait: it leaves every other task's row as it was, the task no longer waits, one task fewer waits
-/// than before, and in every queue the others stand as they stood.
+/// than before, where it waited, and in every queue the others stand as they stood.
 pub fn a_release_ends_one_wait()
     ensures others { (b : Base) (t u : ℕ) (result : Answer) → (u ≡ t → ⊥) → task_at (release b t result) u ≡ task_at b u }
     ensures over { (b : Base) (t : ℕ) (result : Answer) → is_waiting (release b t result) t ≡ false }
@@ -122,8 +119,9 @@ pub fn a_release_ends_one_wait()
 {}
 
 /// A waiting call is its trial: what a semaphore or an event flag decides for its caller is what comes of it when the
-/// caller joins the waiters and the object serves one, if it can. The caller is ready and has a place in the table of what
-/// tasks ask for, and the object is settled: before the call it could serve nobody.
+/// caller joins the waiters and the object serves one, if it can. The caller is ready, no end of a wait is set for it,
+/// and it has a place in the table of what tasks ask for; and the object is settled: before the call it could serve
+/// nobody.
 pub fn a_waiting_call_is_its_trial()
     ensures semaphore { (b : Base) (s : SemFlags) (t id n : ℕ) (timeout : ℤ) (k : Semaphore) → MayWait b t →
         sem_at s id ≡ Some k → t < length s.counts → serve_sem b s id ≡ None →
@@ -133,8 +131,8 @@ pub fn a_waiting_call_is_its_trial()
         waited_for_flag b s t id wish timeout (Some k) ≡ flag_trial b s t id wish timeout k }
 {}
 
-/// With a time-out of 0 a waiting call that isn't served changes nothing: where a semaphore doesn't have the count that is
-/// asked for, or somebody stands before who has to be served first, and where an event flag doesn't have the bits, the
+/// With a time-out of 0 a waiting call that isn't served changes nothing: where a semaphore doesn't have the count that
+/// is asked for, or somebody stands before who has to be served first, and where an event flag doesn't have the bits, the
 /// answer is E_TMOUT, and the base and the tables are as they were.
 pub fn a_time_out_of_zero_changes_nothing()
     ensures semaphore { (b : Base) (s : SemFlags) (t id n : ℕ) (k : Semaphore) → serves_at_once b k id t n ≡ false →
