@@ -68,7 +68,7 @@ use Rattle.machine_model.specs.Runs.Turns.{acted, ran, turn_of, done_turn}
 use Rattle.machine_model.specs.States.Objects.{first_serving as first_serving_2, serve_object}
 use Rattle.machine_model.specs.States.State.{state_start}
 
--- The same with a request that is cut off after its first block.
+-- A close waits for the ending of the request that is with the driver, which is cut off after its first block.
 close_cuts_script : Script
 close_cuts_script = record {
   devices = record { name = codes "d"; kind = devices.Slow 256 3 } ∷ [];

@@ -1,4 +1,4 @@
-//! Laws of mailboxes and message buffers, which stand beside the definitions of `object_model`. Nothing is built on this crate.
+//! Laws of mailboxes and message buffers, which stand beside the definitions of `object_model`. No code is built on this crate.
 #![tactic(auto)]
 
 pub mod laws;

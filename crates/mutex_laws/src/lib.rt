@@ -1,5 +1,4 @@
-//! Laws of mutexes and of current priorities, which stand beside the definitions of `object_model`. Nothing is built on this
-//! crate.
+//! Laws of mutexes and of current priorities, which stand beside the definitions of `object_model`. No code is built on this crate.
 #![tactic(auto)]
 
 pub mod laws;
