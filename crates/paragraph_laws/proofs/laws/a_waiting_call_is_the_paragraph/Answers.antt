@@ -1,0 +1,9 @@
+use Rattle.paragraph_laws.proofs.Boxes.{box_call_is_paragraph}
+use Rattle.paragraph_laws.proofs.Pools.{fixed_call_is_paragraph}
+use Rattle.paragraph_laws.proofs.laws.a_waiting_call_is_the_paragraph.Goals as goal
+
+pub returns-clause-mailbox : goal.returns-clause-mailbox
+returns-clause-mailbox c = box_call_is_paragraph
+
+pub returns-clause-fixed : goal.returns-clause-fixed
+returns-clause-fixed c = fixed_call_is_paragraph
