@@ -5,3 +5,4 @@ pub mod OneKind
 pub mod Settled
 pub mod Pools
 pub mod Boxes
+pub mod SemFlags

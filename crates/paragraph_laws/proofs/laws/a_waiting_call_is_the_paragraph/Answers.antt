@@ -1,6 +1,13 @@
 use Rattle.paragraph_laws.proofs.Boxes.{box_call_is_paragraph}
 use Rattle.paragraph_laws.proofs.Pools.{fixed_call_is_paragraph}
+use Rattle.paragraph_laws.proofs.SemFlags.{flag_call_is_paragraph, sem_call_is_paragraph}
 use Rattle.paragraph_laws.proofs.laws.a_waiting_call_is_the_paragraph.Goals as goal
+
+pub returns-clause-semaphore : goal.returns-clause-semaphore
+returns-clause-semaphore c = sem_call_is_paragraph
+
+pub returns-clause-flag : goal.returns-clause-flag
+returns-clause-flag c = flag_call_is_paragraph
 
 pub returns-clause-mailbox : goal.returns-clause-mailbox
 returns-clause-mailbox c = box_call_is_paragraph
