@@ -6,3 +6,4 @@ pub mod Settled
 pub mod Pools
 pub mod Boxes
 pub mod SemFlags
+pub mod VariablePools

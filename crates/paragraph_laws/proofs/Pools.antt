@@ -33,7 +33,7 @@ use Rattle.paragraph_laws.proofs.Still.{SameQueue, fixed_still}
 use Rattle.paragraph_laws.proofs.Tables.{alone_serves, none_serves, stands_none}
 
 -- parts with another base and other pools
-abbrev pools_to : Parts → Base → Pools → Parts
+abbrev pub pools_to : Parts → Base → Pools → Parts
 pools_to p c m = record p { base = c; objects = record p.objects { pools = m } }
 
 -- ---- fixed pools
@@ -109,7 +109,7 @@ nothing_free p id k [] = refl
 nothing_free p id k (t ∷ waiters) = refl
 
 -- a wait that isn't over at once is one of all parts
-over_pool : (p : Parts) (c : Base) (m : Pools) (at_once : Bool) →
+pub over_pool : (p : Parts) (c : Base) (m : Pools) (at_once : Bool) →
     cond at_once (record { parts = p; outcome = failed er.TmOut }) (record { parts = pools_to p c m; outcome = Blocked })
     ≡ pool_waits p (cond at_once (pool_done (pool_parts p) (failed er.TmOut)) (pool_done (record { base = c; table = m }) Blocked))
 over_pool p c m true = refl

@@ -10,8 +10,10 @@ ghost use Rattle.kernel_model.specs.SemFlags.Calls.{waited_for_flag, waited_for_
 ghost use Rattle.kernel_model.specs.SemFlags.Tables.{flag_at, flag_object, sem_at, sem_object};
 ghost use Rattle.object_model.specs.Mails.Tables.{Mailbox, box_at, box_object};
 ghost use Rattle.object_model.specs.Mails.Calls.{received_from_box};
-ghost use Rattle.object_model.specs.Pools.Tables.{FixedPool, fixed_at, fixed_object};
-ghost use Rattle.object_model.specs.Pools.Calls.{got_from_fixed};
+ghost use Rattle.object_model.specs.Pools.Tables.{FixedPool, VariablePool, fixed_at, fixed_object, variable_at, variable_object};
+ghost use Rattle.object_model.specs.Pools.Calls.{got_from_fixed, got_from_variable};
+ghost use Rattle.pool_laws.specs.Blocks.{LieApart};
+ghost use Rattle.pool_laws.specs.Trial.{asked_size};
 ghost use Rattle.machine_model.specs.States.Objects.{Parts, mail_parts, pool_parts};
 ghost use Rattle.paragraph_laws.specs.Paragraph.{IsSettled, mail_waits, paragraph, pool_waits, sem_flag_waits};
 
@@ -33,4 +35,8 @@ pub fn a_waiting_call_is_the_paragraph()
     ensures fixed { (mode : Mode) (p : Parts) (t id : ℕ) (timeout : ℤ) (k : FixedPool) → IsSettled mode p → MayWait p.base t → 1 ≤ id →
         fixed_at p.objects.pools id ≡ Some k →
         pool_waits p (got_from_fixed (pool_parts p) t id timeout (Some k)) ≡ paragraph mode p t (fixed_object id) k.order timeout p.objects }
+    ensures variable { (mode : Mode) (p : Parts) (t id n : ℕ) (timeout : ℤ) (k : VariablePool) → IsSettled mode p → MayWait p.base t → 1 ≤ id →
+        variable_at p.objects.pools id ≡ Some k → LieApart k → 0 < n → t < length p.objects.pools.sizes →
+        pool_waits p (got_from_variable (pool_parts p) t id n timeout (Some k)) ≡
+            paragraph mode p t (variable_object id) k.order timeout (record p.objects { pools = asked_size p.objects.pools t n }) }
 {}
