@@ -39,7 +39,8 @@ abbrev mails_to : Parts → Base → Mails → Parts
 mails_to p c m = record p { base = c; objects = record p.objects { mails = m } }
 
 -- once a task has joined the waiters of a mailbox, or was served by one, other kinds serve nobody
-but_boxes : (p : Parts) (c : Base) (m : Mails) (id : ℕ) → AreShort p.objects → 1 ≤ id → id ≤ 64 → AwayFrom p.base c (box_object id) → m.buffers ≡ p.objects.mails.buffers → m.sending ≡ p.objects.mails.sending → NoneOf p → NoneBut 1 kinds (mails_to p c m)
+but_boxes : (p : Parts) (c : Base) (m : Mails) (id : ℕ) → AreShort p.objects → 1 ≤ id → id ≤ 64 → AwayFrom p.base c (box_object id) → m.buffers ≡ p.objects.mails.buffers →
+    m.sending ≡ p.objects.mails.sending → NoneOf p → NoneBut 1 kinds (mails_to p c m)
 unfolding NoneBut AllKinds
 but_boxes p c m id short one most away buffers sending none =
     let q : Parts = mails_to p c m in
@@ -62,7 +63,8 @@ but_boxes p c m id short one most away buffers sending none =
     )
 
 -- so what is served first is what the mailboxes serve
-boxes_first : (p : Parts) (c : Base) (m : Mails) (id : ℕ) → AreShort p.objects → 1 ≤ id → id ≤ 64 → AwayFrom p.base c (box_object id) → m.buffers ≡ p.objects.mails.buffers → m.sending ≡ p.objects.mails.sending → NoneOf p →
+boxes_first : (p : Parts) (c : Base) (m : Mails) (id : ℕ) → AreShort p.objects → 1 ≤ id → id ≤ 64 → AwayFrom p.base c (box_object id) → m.buffers ≡ p.objects.mails.buffers →
+    m.sending ≡ p.objects.mails.sending → NoneOf p →
     serve_object (mails_to p c m) ≡ option_map (with_mails (mails_to p c m)) (serve_mailboxes (mail_parts (mails_to p c m)))
 unfolding serve_object
 boxes_first p c m id short one most away buffers sending none = only_kind 1 kinds (mails_to p c m) (but_boxes p c m id short one most away buffers sending none)
@@ -74,23 +76,27 @@ each_box p id one none None at = ap (serve_box_at p id) at
 each_box p id one none (Some k) at = stands_none (serve_box p) id p.table.boxes k one at none
 
 -- and what they serve is what the caller's mailbox does
-box_alone : (p q : MailParts) (id : ℕ) (k : Mailbox) → 1 ≤ id → box_at p.table id ≡ Some k → q.table.boxes ≡ p.table.boxes → AwayFrom p.base q.base (box_object id) → serve_mailboxes p ≡ None → serve_mailboxes q ≡ serve_box q id
+box_alone : (p q : MailParts) (id : ℕ) (k : Mailbox) → 1 ≤ id → box_at p.table id ≡ Some k → q.table.boxes ≡ p.table.boxes → AwayFrom p.base q.base (box_object id) →
+    serve_mailboxes p ≡ None → serve_mailboxes q ≡ serve_box q id
 unfolding serve_mailboxes
 box_alone p q id k one at same away none =
     alone_serves (serve_box q) id q.table.boxes k one (ap (λ table. entry table id) same ∙ at)
     (λ other in_it apart. box_still p q other (ap (λ table. entry table other) same) (away (box_object other) (λ e. apart (omega (arith, e)))) (each_box p other in_it.0 none (box_at p.table other) refl))
 
 -- once the caller was served no mailbox can serve anybody: of its own it took the last waiter away
-box_done : (p q : MailParts) (id : ℕ) (k : Mailbox) (rest : List Message) → q.table ≡ with_box p.table id (Some (record k { messages = rest })) → ((other : ℕ) → SameQueue p.base q.base other) → box_waiters p.base k id ≡ [] →
+box_done : (p q : MailParts) (id : ℕ) (k : Mailbox) (rest : List Message) → q.table ≡ with_box p.table id (Some (record k { messages = rest })) →
+    ((other : ℕ) → SameQueue p.base q.base other) → box_waiters p.base k id ≡ [] →
     serve_mailboxes p ≡ None → box_at p.table id ≡ Some k → serve_mailboxes q ≡ None
 unfolding serve_mailboxes serve_box
 box_done p q id k rest is queues nobody none at =
     let taken : Mailbox = record k { messages = rest } in
     none_serves (serve_box q) q.table.boxes (λ other in_it. box_if p q id other k taken (other == id) refl
     (λ same. ap (λ (table : Mails). entry table.boxes other) is ∙ ap (entry (slice_set p.table.boxes id (Some taken))) same ∙ entry_there p.table.boxes id k (Some taken) at)
-    (λ apart. ap (λ (table : Mails). entry table.boxes other) is ∙ entry_other p.table.boxes id other (Some taken) apart) (queues (box_object other)) (queues (box_object id) k.order ∙ nobody) refl (each_box p other in_it.0 none (box_at p.table other) refl))
+    (λ apart. ap (λ (table : Mails). entry table.boxes other) is ∙ entry_other p.table.boxes id other (Some taken) apart) (queues (box_object other))
+    (queues (box_object id) k.order ∙ nobody) refl (each_box p other in_it.0 none (box_at p.table other) refl))
   where
-    box_if : (p q : MailParts) (id other : ℕ) (k taken : Mailbox) (same : Bool) → (other == id) ≡ same → (other ≡ id → box_at q.table other ≡ Some taken) → ((other ≡ id → ⊥) → box_at q.table other ≡ box_at p.table other) →
+    box_if : (p q : MailParts) (id other : ℕ) (k taken : Mailbox) (same : Bool) → (other == id) ≡ same → (other ≡ id → box_at q.table other ≡ Some taken) →
+        ((other ≡ id → ⊥) → box_at q.table other ≡ box_at p.table other) →
         SameQueue p.base q.base (box_object other) → box_waiters q.base k id ≡ [] → taken.order ≡ k.order → serve_box p other ≡ None → serve_box q other ≡ None
     box_if p q id other k taken true is own others queues nobody order none =
         let e : other ≡ id = grind (arith, nat_tests, is) in
@@ -120,7 +126,8 @@ given_queue : (b : Base) (n object : ℕ) → SameQueue b (give_bytes b n) objec
 given_queue b n object Fifo = refl
 given_queue b n object Priority = refl
 
-box_case : (mode : Mode) (p : Parts) (t id : ℕ) (timeout : ℤ) (k : Mailbox) (messages : List Message) → k.messages ≡ messages → MayWait p.base t → AreShort p.objects → 1 ≤ id → id ≤ 64 → box_at p.objects.mails id ≡ Some k → HasSettled mode p →
+box_case : (mode : Mode) (p : Parts) (t id : ℕ) (timeout : ℤ) (k : Mailbox) (messages : List Message) → k.messages ≡ messages → MayWait p.base t → AreShort p.objects → 1 ≤ id →
+    id ≤ 64 → box_at p.objects.mails id ≡ Some k → HasSettled mode p →
     mail_waits p (taken_from_box (mail_parts p) t id timeout k messages) ≡ after_settling p t timeout (settle mode (joins p t (box_object id) k.order timeout p.objects))
 unfolding serve_box
 box_case mode p t id timeout k [] there may short one most at settled =
@@ -150,7 +157,8 @@ box_case mode p t id timeout k (first ∷ rest) there may short one most at sett
     let left : Base = give_bytes (release c t result) message_bytes in
     let served : Parts = mails_to p left m in
     let away : AwayFrom p.base c (box_object id) = queue_elsewhere p.base t (box_object id) k.order timeout may in
-    let rejoined : (other : ℕ) → SameQueue p.base left other = λ other order. given_queue (release c t result) message_bytes other order ∙ queue_rejoined p.base t (box_object id) k.order timeout result may other order in
+    let rejoined : (other : ℕ) →
+    SameQueue p.base left other = λ other order. given_queue (release c t result) message_bytes other order ∙ queue_rejoined p.base t (box_object id) k.order timeout result may other order in
     let no_mutex : IsNoMutex (box_object id) = grind (arith, nat_tests, most) in
     let none = none_of p settled.unserved in
     let nobody : box_waiters p.base k id ≡ [] =
@@ -171,7 +179,8 @@ box_case mode p t id timeout k (first ∷ rest) there may short one most at sett
     (boxes_first p c p.objects.mails id short one most away refl refl none ∙ ap (option_map (with_mails now)) own)
     (record {
       unserved = done;
-      up_to_date = kept_up_to_date c left p.objects.mutexes (kept_then c (release c t result) left (served_keeps p.base t (box_object id) k.order timeout result may no_mutex) (given_keeps (release c t result) message_bytes)) up;
+      up_to_date = kept_up_to_date c left p.objects.mutexes
+      (kept_then c (release c t result) left (served_keeps p.base t (box_object id) k.order timeout result may no_mutex) (given_keeps (release c t result) message_bytes)) up;
       given = given_still mode p served refl (rejoined 648) settled.given;
     })
     (joined_waits p.base t (box_object id) k.order timeout may) refl

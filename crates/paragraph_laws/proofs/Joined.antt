@@ -28,7 +28,8 @@ pub queue_elsewhere : (b : Base) (t object : ℕ) (order : Order) (timeout : ℤ
 queue_elsewhere b t object order timeout may other apart = stands_elsewhere b t object other order timeout may apart
 
 -- and once a task that joined has been served, the queue of every object does
-pub queue_rejoined : (b : Base) (t object : ℕ) (order : Order) (timeout : ℤ) (result : Answer) → MayWait b t → (other : ℕ) → SameQueue b (release (make_wait b t object order timeout) t result) other
+pub queue_rejoined : (b : Base) (t object : ℕ) (order : Order) (timeout : ℤ) (result : Answer) → MayWait b t → (other : ℕ) →
+    SameQueue b (release (make_wait b t object order timeout) t result) other
 queue_rejoined b t object order timeout result may other = stands_again b t object other order timeout result may
 
 -- ---- the priorities
@@ -37,7 +38,8 @@ queue_rejoined b t object order timeout result may other = stands_again b t obje
 abbrev pub KeepsPriorities : Base → Base → Type 0
 KeepsPriorities b c = IsLike b c × ((u : ℕ) → current c u ≡ current b u)
 
-taken_written : (from place : ℕ) (slots : List (Option Task)) (k now : Task) → entry slots place ≡ Some k → taken_from from (slice_set slots place (Some now)) ≡ taken_from from slots
+taken_written : (from place : ℕ) (slots : List (Option Task)) (k now : Task) → entry slots place ≡ Some k →
+    taken_from from (slice_set slots place (Some now)) ≡ taken_from from slots
 taken_written from place [] k now at = absurd (cc at)
 taken_written from zero (None ∷ slots) k now at = absurd (cc at)
 taken_written from zero (Some other ∷ slots) k now at = refl
@@ -49,13 +51,15 @@ ids_written t [] k now at = absurd (cc at)
 ids_written zero (slot ∷ tasks) k now at = refl
 ids_written (suc place) (slot ∷ tasks) k now at = taken_written 1 place tasks k now at
 
-same_at : {A : Type 0} → (of : Option Task → A) (b c : Base) (t : ℕ) (k now : Task) → c.tasks ≡ slice_set b.tasks t (Some now) → task_at b t ≡ Some k → of (Some now) ≡ of (Some k) → (u : ℕ) → of (task_at c u) ≡ of (task_at b u)
+same_at : {A : Type 0} → (of : Option Task → A) (b c : Base) (t : ℕ) (k now : Task) → c.tasks ≡ slice_set b.tasks t (Some now) → task_at b t ≡ Some k →
+    of (Some now) ≡ of (Some k) → (u : ℕ) → of (task_at c u) ≡ of (task_at b u)
 same_at of b c t k now written at same u =
     ap (λ tasks. of (entry tasks u)) written
     ∙ entry_each (λ v o. of o ≡ of (task_at b v)) b.tasks t (Some now) (ap of (entry_there b.tasks t k (Some now) at) ∙ same ∙ ap of (sym at)) (λ v apart. refl) u
 
 -- a row that is alive as before, with the priorities that it had, and that waits for the mutex that it did, if any
-written_keeps : (b c : Base) (t : ℕ) (k now : Task) → c.tasks ≡ slice_set b.tasks t (Some now) → task_at b t ≡ Some k → is_dormant_phase now.phase ≡ is_dormant_phase k.phase → now.base ≡ k.base → now.current ≡ k.current →
+written_keeps : (b c : Base) (t : ℕ) (k now : Task) → c.tasks ≡ slice_set b.tasks t (Some now) → task_at b t ≡ Some k → is_dormant_phase now.phase ≡ is_dormant_phase k.phase →
+    now.base ≡ k.base → now.current ≡ k.current →
     awaited_in_phase now.phase ≡ awaited_in_phase k.phase → KeepsPriorities b c
 written_keeps b c t k now written at lives bases currents awaits =
     (
@@ -84,7 +88,8 @@ joined_keeps b t object order (negsuc n) may none =
     entry_at (KeepsPriorities b) (task_at b t) may.row b _ may.there
     (written_keeps b _ t may.row (record may.row { phase = Waiting object; queue = order }) refl may.there (ap is_dormant_phase (sym may.ready)) refl refl (awaits_none object none ∙ ap awaited_in_phase (sym may.ready)))
 
-left_keeps : (b c : Base) (t object : ℕ) (order : Order) (result : Answer) (row : Task) → task_at b t ≡ Some row → c.tasks ≡ slice_set b.tasks t (Some (record row { phase = Waiting object; queue = order })) → IsNoMutex object → KeepsPriorities c (release c t result)
+left_keeps : (b c : Base) (t object : ℕ) (order : Order) (result : Answer) (row : Task) → task_at b t ≡ Some row →
+    c.tasks ≡ slice_set b.tasks t (Some (record row { phase = Waiting object; queue = order })) → IsNoMutex object → KeepsPriorities c (release c t result)
 left_keeps b c t object order result row at written none =
     let waits : Task = record row { phase = Waiting object; queue = order } in
     let stands : task_at c t ≡ Some waits = ap (λ tasks. entry tasks t) written ∙ entry_there b.tasks t row (Some waits) at in
@@ -92,7 +97,8 @@ left_keeps b c t object order result row at written none =
     (written_keeps c _ t waits (record waits { phase = Ready }) refl stands refl refl refl (sym (awaits_none object none)))
 
 -- and no priority is another once it was served
-pub served_keeps : (b : Base) (t object : ℕ) (order : Order) (timeout : ℤ) (result : Answer) → MayWait b t → IsNoMutex object → KeepsPriorities (make_wait b t object order timeout) (release (make_wait b t object order timeout) t result)
+pub served_keeps : (b : Base) (t object : ℕ) (order : Order) (timeout : ℤ) (result : Answer) → MayWait b t → IsNoMutex object →
+    KeepsPriorities (make_wait b t object order timeout) (release (make_wait b t object order timeout) t result)
 served_keeps b t object order (pos n) result may none =
     entry_at (λ c. KeepsPriorities c (release c t result)) (task_at b t) may.row b _ may.there (left_keeps b _ t object order result may.row may.there refl none)
 served_keeps b t object order (negsuc n) result may none =

@@ -39,7 +39,8 @@ pools_to p c m = record p { base = c; objects = record p.objects { pools = m } }
 -- ---- fixed pools
 
 -- once a task has joined the waiters of a fixed pool, or was served by one, other kinds serve nobody
-but_fixed : (p : Parts) (c : Base) (m : Pools) (id : ℕ) → AreShort p.objects → 1 ≤ id → id ≤ 64 → AwayFrom p.base c (fixed_object id) → m.variable ≡ p.objects.pools.variable → m.sizes ≡ p.objects.pools.sizes → NoneOf p → NoneBut 4 kinds (pools_to p c m)
+but_fixed : (p : Parts) (c : Base) (m : Pools) (id : ℕ) → AreShort p.objects → 1 ≤ id → id ≤ 64 → AwayFrom p.base c (fixed_object id) → m.variable ≡ p.objects.pools.variable →
+    m.sizes ≡ p.objects.pools.sizes → NoneOf p → NoneBut 4 kinds (pools_to p c m)
 unfolding NoneBut AllKinds
 but_fixed p c m id short one most away variable sizes none =
     let q : Parts = pools_to p c m in
@@ -62,7 +63,8 @@ but_fixed p c m id short one most away variable sizes none =
     )
 
 -- so what is served first is what the pools serve
-fixed_first : (p : Parts) (c : Base) (m : Pools) (id : ℕ) → AreShort p.objects → 1 ≤ id → id ≤ 64 → AwayFrom p.base c (fixed_object id) → m.variable ≡ p.objects.pools.variable → m.sizes ≡ p.objects.pools.sizes → NoneOf p →
+fixed_first : (p : Parts) (c : Base) (m : Pools) (id : ℕ) → AreShort p.objects → 1 ≤ id → id ≤ 64 → AwayFrom p.base c (fixed_object id) → m.variable ≡ p.objects.pools.variable →
+    m.sizes ≡ p.objects.pools.sizes → NoneOf p →
     serve_object (pools_to p c m) ≡ option_map (with_pools (pools_to p c m)) (serve_fixed_pools (pool_parts (pools_to p c m)))
 unfolding serve_object
 fixed_first p c m id short one most away variable sizes none = only_kind 4 kinds (pools_to p c m) (but_fixed p c m id short one most away variable sizes none)
@@ -74,23 +76,27 @@ each_fixed p id one none None at = ap (serve_fixed_at p id) at
 each_fixed p id one none (Some k) at = stands_none (serve_fixed p) id p.table.fixed k one at none
 
 -- and what they serve is what the caller's pool does
-fixed_alone : (p q : PoolParts) (id : ℕ) (k : FixedPool) → 1 ≤ id → fixed_at p.table id ≡ Some k → q.table.fixed ≡ p.table.fixed → AwayFrom p.base q.base (fixed_object id) → serve_fixed_pools p ≡ None → serve_fixed_pools q ≡ serve_fixed q id
+fixed_alone : (p q : PoolParts) (id : ℕ) (k : FixedPool) → 1 ≤ id → fixed_at p.table id ≡ Some k → q.table.fixed ≡ p.table.fixed → AwayFrom p.base q.base (fixed_object id) →
+    serve_fixed_pools p ≡ None → serve_fixed_pools q ≡ serve_fixed q id
 unfolding serve_fixed_pools
 fixed_alone p q id k one at same away none =
     alone_serves (serve_fixed q) id q.table.fixed k one (ap (λ table. entry table id) same ∙ at)
     (λ other in_it apart. fixed_still p q other (ap (λ table. entry table other) same) (away (fixed_object other) (λ e. apart (omega (arith, e)))) (each_fixed p other in_it.0 none (fixed_at p.table other) refl))
 
 -- once the caller was served no fixed pool can serve anybody: of its own it took the last waiter away
-fixed_done : (p q : PoolParts) (id : ℕ) (k : FixedPool) (number : ℕ) → q.table ≡ with_block p.table id k number true → ((other : ℕ) → SameQueue p.base q.base other) → fixed_waiters p.base k id ≡ [] → serve_fixed_pools p ≡ None → fixed_at p.table id ≡ Some k →
+fixed_done : (p q : PoolParts) (id : ℕ) (k : FixedPool) (number : ℕ) → q.table ≡ with_block p.table id k number true → ((other : ℕ) → SameQueue p.base q.base other) →
+    fixed_waiters p.base k id ≡ [] → serve_fixed_pools p ≡ None → fixed_at p.table id ≡ Some k →
     serve_fixed_pools q ≡ None
 unfolding serve_fixed_pools serve_fixed
 fixed_done p q id k number is queues nobody none at =
     let taken : FixedPool = record k { out = slice_set k.out number true } in
     none_serves (serve_fixed q) q.table.fixed (λ other in_it. fixed_if p q id other k taken (other == id) refl
     (λ same. ap (λ (table : Pools). entry table.fixed other) is ∙ ap (entry (slice_set p.table.fixed id (Some taken))) same ∙ entry_there p.table.fixed id k (Some taken) at)
-    (λ apart. ap (λ (table : Pools). entry table.fixed other) is ∙ entry_other p.table.fixed id other (Some taken) apart) (queues (fixed_object other)) (queues (fixed_object id) k.order ∙ nobody) refl (each_fixed p other in_it.0 none (fixed_at p.table other) refl))
+    (λ apart. ap (λ (table : Pools). entry table.fixed other) is ∙ entry_other p.table.fixed id other (Some taken) apart) (queues (fixed_object other))
+    (queues (fixed_object id) k.order ∙ nobody) refl (each_fixed p other in_it.0 none (fixed_at p.table other) refl))
   where
-    fixed_if : (p q : PoolParts) (id other : ℕ) (k taken : FixedPool) (same : Bool) → (other == id) ≡ same → (other ≡ id → fixed_at q.table other ≡ Some taken) → ((other ≡ id → ⊥) → fixed_at q.table other ≡ fixed_at p.table other) →
+    fixed_if : (p q : PoolParts) (id other : ℕ) (k taken : FixedPool) (same : Bool) → (other == id) ≡ same → (other ≡ id → fixed_at q.table other ≡ Some taken) →
+        ((other ≡ id → ⊥) → fixed_at q.table other ≡ fixed_at p.table other) →
         SameQueue p.base q.base (fixed_object other) → fixed_waiters q.base k id ≡ [] → taken.order ≡ k.order → serve_fixed p other ≡ None → serve_fixed q other ≡ None
     fixed_if p q id other k taken true is own others queues nobody order none =
         let e : other ≡ id = grind (arith, nat_tests, is) in
@@ -115,7 +121,8 @@ pub over_pool : (p : Parts) (c : Base) (m : Pools) (at_once : Bool) →
 over_pool p c m true = refl
 over_pool p c m false = refl
 
-fixed_case : (mode : Mode) (p : Parts) (t id : ℕ) (timeout : ℤ) (k : FixedPool) (number : ℕ) → free_block k ≡ number → MayWait p.base t → AreShort p.objects → 1 ≤ id → id ≤ 64 → fixed_at p.objects.pools id ≡ Some k → HasSettled mode p →
+fixed_case : (mode : Mode) (p : Parts) (t id : ℕ) (timeout : ℤ) (k : FixedPool) (number : ℕ) → free_block k ≡ number → MayWait p.base t → AreShort p.objects → 1 ≤ id → id ≤ 64 →
+    fixed_at p.objects.pools id ≡ Some k → HasSettled mode p →
     pool_waits p (block_taken (pool_parts p) t id timeout k number) ≡ after_settling p t timeout (settle mode (joins p t (fixed_object id) k.order timeout p.objects))
 unfolding serve_fixed
 fixed_case mode p t id timeout k zero free may short one most at settled =
@@ -172,7 +179,8 @@ fixed_case mode p t id timeout k (suc before) free may short one most at settled
     ∙ ap (λ base. record { parts = pools_to p base m; outcome = Returned result }) (base_back p.base t (fixed_object id) k.order timeout result may))
 
 -- a call for a block of a fixed pool does what the paragraph says
-pub fixed_call_is_paragraph : (mode : Mode) (p : Parts) (t id : ℕ) (timeout : ℤ) (k : FixedPool) → IsSettled mode p → MayWait p.base t → 1 ≤ id → fixed_at p.objects.pools id ≡ Some k →
+pub fixed_call_is_paragraph : (mode : Mode) (p : Parts) (t id : ℕ) (timeout : ℤ) (k : FixedPool) → IsSettled mode p → MayWait p.base t → 1 ≤ id →
+    fixed_at p.objects.pools id ≡ Some k →
     pool_waits p (got_from_fixed (pool_parts p) t id timeout (Some k)) ≡ paragraph mode p t (fixed_object id) k.order timeout p.objects
 unfolding paragraph
 fixed_call_is_paragraph mode p t id timeout k settled may one at =

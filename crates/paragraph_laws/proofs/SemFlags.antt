@@ -45,7 +45,8 @@ sem_flags_to p c s = record p { base = c; objects = record p.objects { sem_flags
 -- ---- the kinds
 
 -- once a task has joined the waiters of a semaphore or a flag, or was served by one, other kinds serve nobody
-but_sem_flags : (p : Parts) (c : Base) (s : SemFlags) (object : ℕ) → AreShort p.objects → 64 ≤ object → object ≤ 191 → AwayFrom p.base c object → NoneOf p → NoneBut 0 kinds (sem_flags_to p c s)
+but_sem_flags : (p : Parts) (c : Base) (s : SemFlags) (object : ℕ) → AreShort p.objects → 64 ≤ object → object ≤ 191 → AwayFrom p.base c object → NoneOf p →
+    NoneBut 0 kinds (sem_flags_to p c s)
 unfolding NoneBut AllKinds
 but_sem_flags p c s object short low high away none =
     let q : Parts = sem_flags_to p c s in
@@ -107,7 +108,8 @@ or_none (Some parts) later none = refl
 -- ---- semaphores
 
 -- once a task has joined the waiters of a semaphore, no other semaphore and no flag serves anybody
-sem_alone : (p : Parts) (c : Base) (t id n : ℕ) (k : Semaphore) → AreShort p.objects → MayWait p.base t → 1 ≤ id → id ≤ 64 → sem_at p.objects.sem_flags id ≡ Some k → AwayFrom p.base c (sem_object id) → serve_sem_flag p.base p.objects.sem_flags ≡ None →
+sem_alone : (p : Parts) (c : Base) (t id n : ℕ) (k : Semaphore) → AreShort p.objects → MayWait p.base t → 1 ≤ id → id ≤ 64 → sem_at p.objects.sem_flags id ≡ Some k →
+    AwayFrom p.base c (sem_object id) → serve_sem_flag p.base p.objects.sem_flags ≡ None →
     serve_sem_flag c (asked_count p.objects.sem_flags t n) ≡ serve_sem c (asked_count p.objects.sem_flags t n) id
 sem_alone p c t id n k short may one most at away none =
     let s : SemFlags = p.objects.sem_flags in
@@ -129,7 +131,8 @@ taken_slot s id n other k true is at =
 taken_slot s id n other k false is at = entry_other s.sems id other (Some (record k { count = k.count - n })) (apart_of other id is) ∙ sem_unchanged (sem_at s other)
 
 -- once it was served, no semaphore and no flag does
-sem_done : (p : Parts) (d : Base) (t id n taken : ℕ) (k : Semaphore) → MayWait p.base t → sem_at p.objects.sem_flags id ≡ Some k → ((other : ℕ) → SameQueue p.base d other) → serve_sem_flag p.base p.objects.sem_flags ≡ None →
+sem_done : (p : Parts) (d : Base) (t id n taken : ℕ) (k : Semaphore) → MayWait p.base t → sem_at p.objects.sem_flags id ≡ Some k → ((other : ℕ) → SameQueue p.base d other) →
+    serve_sem_flag p.base p.objects.sem_flags ≡ None →
     serve_sem_flag d (taken_from_sem (asked_count p.objects.sem_flags t n) id k taken) ≡ None
 sem_done p d t id n taken k may at queues none =
     let s : SemFlags = p.objects.sem_flags in
@@ -139,9 +142,11 @@ sem_done p d t id n taken k may at queues none =
     (flags_still p.base d s now refl refl (λ other in_it. queues (flag_object other)) (both_none p.base s none).1)
     ∙ none_serves (serve_sem d now) now.sems
     (λ other in_it. sem_still p.base d s now t other (λ count. count - cond (other == id) taken 0) (queues (sem_object other)) (ready_for_none p.base t (sem_object other) may)
-    (λ u others. get_or-set_other s.counts t u n 0 others) (λ count. omega arith) (taken_slot s id taken other k (other == id) refl at) (each_sem p.base s other in_it.0 none (sem_at s other) refl))
+    (λ u others. get_or-set_other s.counts t u n 0 others) (λ count. omega arith) (taken_slot s id taken other k (other == id) refl at)
+    (each_sem p.base s other in_it.0 none (sem_at s other) refl))
 
-sem_case : (mode : Mode) (p : Parts) (t id n : ℕ) (timeout : ℤ) (k : Semaphore) (at_once : Bool) → MayWait p.base t → AreShort p.objects → 1 ≤ id → id ≤ 64 → sem_at p.objects.sem_flags id ≡ Some k → t < length p.objects.sem_flags.counts → HasSettled mode p →
+sem_case : (mode : Mode) (p : Parts) (t id n : ℕ) (timeout : ℤ) (k : Semaphore) (at_once : Bool) → MayWait p.base t → AreShort p.objects → 1 ≤ id → id ≤ 64 →
+    sem_at p.objects.sem_flags id ≡ Some k → t < length p.objects.sem_flags.counts → HasSettled mode p →
     let c : Base = make_wait p.base t (sem_object id) k.order timeout in
     let asked : SemFlags = asked_count p.objects.sem_flags t n in
     serve_sem_flag c asked ≡ serve_sem_of c asked id k (this_if at_once t) →
@@ -155,7 +160,8 @@ sem_case mode p t id n timeout k false may short one most at inside settled own 
     let no_mutex : IsNoMutex (sem_object id) = grind (arith, nat_tests, most) in
     sym (waits_on mode p now t timeout
     (record {
-      unserved = sem_flags_first p c asked (sem_object id) short (omega (arith, one)) (omega (arith, most)) away (none_of p settled.unserved) ∙ ap (option_map (with_sem_flags now)) own;
+      unserved = sem_flags_first p c asked (sem_object id) short (omega (arith, one)) (omega (arith, most)) away (none_of p settled.unserved) ∙ ap
+      (option_map (with_sem_flags now)) own;
       up_to_date = kept_up_to_date p.base c p.objects.mutexes (joined_keeps p.base t (sem_object id) k.order timeout may no_mutex) settled.up_to_date;
       given = given_still mode p now refl (away 648 (λ e. omega (arith, e, most))) settled.given;
     })
@@ -185,12 +191,16 @@ sem_case mode p t id n timeout k true may short one most at inside settled own =
       given = given_still mode p served refl (rejoined 648) settled.given;
     })
     (joined_waits p.base t (sem_object id) k.order timeout may) refl
-    ∙ ap (λ base. record { parts = sem_flags_to p base (taken_from_sem p.objects.sem_flags id k (count_of asked t)); outcome = Returned result }) (base_back p.base t (sem_object id) k.order timeout result may)
-    ∙ ap (λ count. record { parts = sem_flags_to p p.base (taken_from_sem p.objects.sem_flags id k count); outcome = Returned result }) (count_asked p.objects.sem_flags t n inside))
+    ∙ ap (λ base. record { parts = sem_flags_to p base (taken_from_sem p.objects.sem_flags id k (count_of asked t)); outcome = Returned result })
+    (base_back p.base t (sem_object id) k.order timeout result may)
+    ∙ ap (λ count. record { parts = sem_flags_to p p.base (taken_from_sem p.objects.sem_flags id k count); outcome = Returned result })
+    (count_asked p.objects.sem_flags t n inside))
 
 -- a call for a semaphore does what the paragraph says
-pub sem_call_is_paragraph : (mode : Mode) (p : Parts) (t id n : ℕ) (timeout : ℤ) (k : Semaphore) → IsSettled mode p → MayWait p.base t → 1 ≤ id → sem_at p.objects.sem_flags id ≡ Some k → t < length p.objects.sem_flags.counts →
-    sem_flag_waits p (waited_for_sem p.base p.objects.sem_flags t id n timeout (Some k)) ≡ paragraph mode p t (sem_object id) k.order timeout (record p.objects { sem_flags = asked_count p.objects.sem_flags t n })
+pub sem_call_is_paragraph : (mode : Mode) (p : Parts) (t id n : ℕ) (timeout : ℤ) (k : Semaphore) → IsSettled mode p → MayWait p.base t → 1 ≤ id →
+    sem_at p.objects.sem_flags id ≡ Some k → t < length p.objects.sem_flags.counts →
+    sem_flag_waits p (waited_for_sem p.base p.objects.sem_flags t id n timeout (Some k)) ≡ paragraph mode p t (sem_object id) k.order timeout
+    (record p.objects { sem_flags = asked_count p.objects.sem_flags t n })
 unfolding paragraph serve_sem
 sem_call_is_paragraph mode p t id n timeout k settled may one at inside =
     let s : SemFlags = p.objects.sem_flags in
@@ -203,12 +213,14 @@ sem_call_is_paragraph mode p t id n timeout k settled may one at inside =
     sem_case mode p t id n timeout k (serves_at_once p.base k id t n) may settled.short one most at inside (has_settled mode p settled)
     (sem_alone p c t id n k settled.short may one most at (queue_elsewhere p.base t (sem_object id) k.order timeout may) none.sem_flags
     ∙ ap (serve_sem_at c asked id) at
-    ∙ ap (serve_sem_of c asked id k) (sem_served_joined p.base s t id n timeout k may inside (sem_settled p.base s id k at (each_sem p.base s id one none.sem_flags (Some k) at))))
+    ∙ ap (serve_sem_of c asked id k)
+    (sem_served_joined p.base s t id n timeout k may inside (sem_settled p.base s id k at (each_sem p.base s id one none.sem_flags (Some k) at))))
 
 -- ---- event flags
 
 -- once a task has joined the waiters of a flag, no other flag and no semaphore serves anybody
-flag_alone : (p : Parts) (c : Base) (t id : ℕ) (wish : FlagWish) (k : EventFlag) → AreShort p.objects → MayWait p.base t → 1 ≤ id → flag_at p.objects.sem_flags id ≡ Some k → AwayFrom p.base c (flag_object id) → serve_sem_flag p.base p.objects.sem_flags ≡ None →
+flag_alone : (p : Parts) (c : Base) (t id : ℕ) (wish : FlagWish) (k : EventFlag) → AreShort p.objects → MayWait p.base t → 1 ≤ id → flag_at p.objects.sem_flags id ≡ Some k →
+    AwayFrom p.base c (flag_object id) → serve_sem_flag p.base p.objects.sem_flags ≡ None →
     serve_sem_flag c (asked_wish p.objects.sem_flags t wish) ≡ serve_flag c (asked_wish p.objects.sem_flags t wish) id
 flag_alone p c t id wish k short may one at away none =
     let s : SemFlags = p.objects.sem_flags in
@@ -219,7 +231,8 @@ flag_alone p c t id wish k short may one at away none =
     (sems_still p.base c s asked refl refl (λ other in_it. away (sem_object other) (λ e. let low = in_it.1 in omega (arith, one, low, few, e))) (both_none p.base s none).0)
     ∙ alone_serves (serve_flag c asked) id asked.flags k one at
     (λ other in_it apart. flag_still p.base c s asked t other (λ pattern. pattern) (away (flag_object other) (λ e. apart (omega (arith, e)))) (ready_for_none p.base t (flag_object other) may)
-    (λ u others. get_or-set_other s.wishes t u wish no_wish others) (λ pattern asked fails. fails) (flag_unchanged (flag_at s other)) (each_flag p.base s other in_it.0 none (flag_at s other) refl))
+    (λ u others. get_or-set_other s.wishes t u wish no_wish others) (λ pattern asked fails. fails) (flag_unchanged (flag_at s other))
+    (each_flag p.base s other in_it.0 none (flag_at s other) refl))
 
 -- the clear of a wish, at its own flag
 abbrev cleared_at : Bool → FlagWish → ℕ → ℕ
@@ -236,10 +249,12 @@ cleared_slot s id other wish k true is at =
     ap (flag_at (cleared_flag s id k wish)) e
     ∙ entry_there s.flags id k (Some (record k { pattern = cleared_by wish k.pattern })) at
     ∙ ap (option_map (patterned (cleared_at true wish))) (sym (ap (flag_at s) e ∙ at))
-cleared_slot s id other wish k false is at = entry_other s.flags id other (Some (record k { pattern = cleared_by wish k.pattern })) (apart_of other id is) ∙ flag_unchanged (flag_at s other)
+cleared_slot s id other wish k false is at = entry_other s.flags id other (Some (record k { pattern = cleared_by wish k.pattern })) (apart_of other id is) ∙ flag_unchanged
+    (flag_at s other)
 
 -- once it was served, no semaphore and no flag does
-flag_done : (p : Parts) (d : Base) (t id : ℕ) (wish done : FlagWish) (k : EventFlag) → MayWait p.base t → flag_at p.objects.sem_flags id ≡ Some k → ((other : ℕ) → SameQueue p.base d other) → serve_sem_flag p.base p.objects.sem_flags ≡ None →
+flag_done : (p : Parts) (d : Base) (t id : ℕ) (wish done : FlagWish) (k : EventFlag) → MayWait p.base t → flag_at p.objects.sem_flags id ≡ Some k →
+    ((other : ℕ) → SameQueue p.base d other) → serve_sem_flag p.base p.objects.sem_flags ≡ None →
     serve_sem_flag d (cleared_flag (asked_wish p.objects.sem_flags t wish) id k done) ≡ None
 flag_done p d t id wish done k may at queues none =
     let s : SemFlags = p.objects.sem_flags in
@@ -249,9 +264,11 @@ flag_done p d t id wish done k may at queues none =
     (sems_still p.base d s now refl refl (λ other in_it. queues (sem_object other)) (both_none p.base s none).0)
     ∙ none_serves (serve_flag d now) now.flags
     (λ other in_it. flag_still p.base d s now t other (cleared_at (other == id) done) (queues (flag_object other)) (ready_for_none p.base t (flag_object other) may)
-    (λ u others. get_or-set_other s.wishes t u wish no_wish others) (no_bits_if (other == id) done) (cleared_slot s id other done k (other == id) refl at) (each_flag p.base s other in_it.0 none (flag_at s other) refl))
+    (λ u others. get_or-set_other s.wishes t u wish no_wish others) (no_bits_if (other == id) done) (cleared_slot s id other done k (other == id) refl at)
+    (each_flag p.base s other in_it.0 none (flag_at s other) refl))
 
-flag_case : (mode : Mode) (p : Parts) (t id : ℕ) (wish : FlagWish) (timeout : ℤ) (k : EventFlag) (at_once : Bool) → MayWait p.base t → AreShort p.objects → 1 ≤ id → id ≤ 64 → flag_at p.objects.sem_flags id ≡ Some k → t < length p.objects.sem_flags.wishes → HasSettled mode p →
+flag_case : (mode : Mode) (p : Parts) (t id : ℕ) (wish : FlagWish) (timeout : ℤ) (k : EventFlag) (at_once : Bool) → MayWait p.base t → AreShort p.objects → 1 ≤ id → id ≤ 64 →
+    flag_at p.objects.sem_flags id ≡ Some k → t < length p.objects.sem_flags.wishes → HasSettled mode p →
     let c : Base = make_wait p.base t (flag_object id) k.order timeout in
     let asked : SemFlags = asked_wish p.objects.sem_flags t wish in
     serve_sem_flag c asked ≡ serve_flag_of c asked id k (this_if at_once t) →
@@ -265,7 +282,8 @@ flag_case mode p t id wish timeout k false may short one most at inside settled 
     let no_mutex : IsNoMutex (flag_object id) = grind (arith, nat_tests, most) in
     sym (waits_on mode p now t timeout
     (record {
-      unserved = sem_flags_first p c asked (flag_object id) short (omega (arith, one)) (omega (arith, most)) away (none_of p settled.unserved) ∙ ap (option_map (with_sem_flags now)) own;
+      unserved = sem_flags_first p c asked (flag_object id) short (omega (arith, one)) (omega (arith, most)) away (none_of p settled.unserved) ∙ ap
+      (option_map (with_sem_flags now)) own;
       up_to_date = kept_up_to_date p.base c p.objects.mutexes (joined_keeps p.base t (flag_object id) k.order timeout may no_mutex) settled.up_to_date;
       given = given_still mode p now refl (away 648 (λ e. omega (arith, e, most))) settled.given;
     })
@@ -295,12 +313,15 @@ flag_case mode p t id wish timeout k true may short one most at inside settled o
       given = given_still mode p served refl (rejoined 648) settled.given;
     })
     (joined_waits p.base t (flag_object id) k.order timeout may) refl
-    ∙ ap (λ base. record { parts = sem_flags_to p base (cleared_flag p.objects.sem_flags id k (wish_of asked t)); outcome = Returned result }) (base_back p.base t (flag_object id) k.order timeout result may)
+    ∙ ap (λ base. record { parts = sem_flags_to p base (cleared_flag p.objects.sem_flags id k (wish_of asked t)); outcome = Returned result })
+    (base_back p.base t (flag_object id) k.order timeout result may)
     ∙ ap (λ it. record { parts = sem_flags_to p p.base (cleared_flag p.objects.sem_flags id k it); outcome = Returned result }) (wish_asked p.objects.sem_flags t wish inside))
 
 -- a call for an event flag does what the paragraph says
-pub flag_call_is_paragraph : (mode : Mode) (p : Parts) (t id : ℕ) (wish : FlagWish) (timeout : ℤ) (k : EventFlag) → IsSettled mode p → MayWait p.base t → 1 ≤ id → flag_at p.objects.sem_flags id ≡ Some k → t < length p.objects.sem_flags.wishes →
-    sem_flag_waits p (waited_for_flag p.base p.objects.sem_flags t id wish timeout (Some k)) ≡ paragraph mode p t (flag_object id) k.order timeout (record p.objects { sem_flags = asked_wish p.objects.sem_flags t wish })
+pub flag_call_is_paragraph : (mode : Mode) (p : Parts) (t id : ℕ) (wish : FlagWish) (timeout : ℤ) (k : EventFlag) → IsSettled mode p → MayWait p.base t → 1 ≤ id →
+    flag_at p.objects.sem_flags id ≡ Some k → t < length p.objects.sem_flags.wishes →
+    sem_flag_waits p (waited_for_flag p.base p.objects.sem_flags t id wish timeout (Some k)) ≡ paragraph mode p t (flag_object id) k.order timeout
+    (record p.objects { sem_flags = asked_wish p.objects.sem_flags t wish })
 unfolding paragraph serve_flag
 flag_call_is_paragraph mode p t id wish timeout k settled may one at inside =
     let s : SemFlags = p.objects.sem_flags in
@@ -312,4 +333,5 @@ flag_call_is_paragraph mode p t id wish timeout k settled may one at inside =
     flag_case mode p t id wish timeout k (has_bits k.pattern wish) may settled.short one (omega (arith, few, stands)) at inside (has_settled mode p settled)
     (flag_alone p c t id wish k settled.short may one at (queue_elsewhere p.base t (flag_object id) k.order timeout may) none.sem_flags
     ∙ ap (serve_flag_at c asked id) at
-    ∙ ap (serve_flag_of c asked id k) (flag_served_joined p.base s t id wish timeout k may inside (flag_settled p.base s id k at (each_flag p.base s id one none.sem_flags (Some k) at))))
+    ∙ ap (serve_flag_of c asked id k)
+    (flag_served_joined p.base s t id wish timeout k may inside (flag_settled p.base s id k at (each_flag p.base s id one none.sem_flags (Some k) at))))

@@ -10,18 +10,23 @@ use Rattle.device_model.specs.Devices.Handing.{hand_over, handed_unless, suspens
 use Rattle.device_model.specs.Devices.Tables.{Devices}
 use Rattle.mail_laws.specs.Trial.{ended_in}
 use Rattle.mail_laws.proofs.Backs.{answered}
-use Rattle.machine_model.specs.Events.Rest.{AreUpToDate}
+use Rattle.machine_model.specs.Events.Rest.{AreUpToDate, IsAtRest}
 use Rattle.machine_model.specs.Events.Settle.{handed, refreshed, served_within, settle}
 use Rattle.machine_model.specs.States.Objects.{Parts, serve_object}
+use Rattle.machine_model.specs.States.State.{State, parts_of}
 use Rattle.machine_lemmas.proofs.Rest.{HasSettled}
 use Rattle.machine_lemmas.proofs.Settling.{next_served, settled_none}
 use Rattle.mutex_laws.proofs.Resettled.{resettled_same}
-use Rattle.paragraph_laws.specs.Paragraph.{IsSettled, after_settling, over_or_waits, returns_to}
+use Rattle.paragraph_laws.specs.Paragraph.{AreShort, IsSettled, after_settling, over_or_waits, returns_to}
 use Rattle.paragraph_laws.proofs.Still.{SameQueue}
 
 -- what has settled, in the words of the lemmas on settling
 pub has_settled : (mode : Mode) (p : Parts) → IsSettled mode p → HasSettled mode p
 has_settled mode p is = record { unserved = is.unserved; up_to_date = is.up_to_date; given = is.given }
+
+-- so have the parts of a state at rest
+pub rest_settled : (mode : Mode) (st : State) → IsAtRest mode st → AreShort st.objects → IsSettled mode (parts_of st)
+rest_settled mode st rest short = record { unserved = rest.unserved; up_to_date = rest.up_to_date; given = rest.given; short = short }
 
 -- ---- requests that were handed
 
@@ -63,18 +68,21 @@ settled_once mode p q up is after =
 
 -- ---- what the paragraph comes to
 
-still_waits : (old settled : Parts) (t : ℕ) (timeout : ℤ) (ended : Option Answer) (waits : Bool) → waits ≡ true → option_map_or (returns_to old settled t) (cond waits None ended) (over_or_waits old settled timeout) ≡ over_or_waits old settled timeout
+still_waits : (old settled : Parts) (t : ℕ) (timeout : ℤ) (ended : Option Answer) (waits : Bool) → waits ≡ true →
+    option_map_or (returns_to old settled t) (cond waits None ended) (over_or_waits old settled timeout) ≡ over_or_waits old settled timeout
 still_waits old settled t timeout ended true is = refl
 still_waits old settled t timeout ended false is = absurd (cc is)
 
 -- where nobody is served the caller's wait goes on, or was over at once
-pub waits_on : (mode : Mode) (old now : Parts) (t : ℕ) (timeout : ℤ) → HasSettled mode now → is_waiting now.base t ≡ true → after_settling old t timeout (settle mode now) ≡ over_or_waits old now timeout
+pub waits_on : (mode : Mode) (old now : Parts) (t : ℕ) (timeout : ℤ) → HasSettled mode now → is_waiting now.base t ≡ true →
+    after_settling old t timeout (settle mode now) ≡ over_or_waits old now timeout
 waits_on mode old now t timeout settled waits =
     ap (after_settling old t timeout) (settled_none mode now settled.up_to_date settled.unserved settled.given)
     ∙ still_waits old now t timeout _ (is_waiting now.base t) waits
 
 -- where the caller alone is served its call returns
-pub returns_once : (mode : Mode) (old now served : Parts) (t : ℕ) (timeout : ℤ) (result : Answer) → AreUpToDate now.base now.objects.mutexes → serve_object now ≡ Some served → HasSettled mode served → is_waiting now.base t ≡ true →
+pub returns_once : (mode : Mode) (old now served : Parts) (t : ℕ) (timeout : ℤ) (result : Answer) → AreUpToDate now.base now.objects.mutexes → serve_object now ≡ Some served →
+    HasSettled mode served → is_waiting now.base t ≡ true →
     ended_in t served.base ≡ ended_in t (release now.base t result) → after_settling old t timeout (settle mode now) ≡ returns_to old served t result
 returns_once mode old now served t timeout result up is settled waits same =
     ap (after_settling old t timeout) (settled_once mode now served up is settled)

@@ -49,7 +49,8 @@ sem_of : (b c : Base) (s now : SemFlags) (id : ℕ) (k : Semaphore) (found : Opt
 sem_of b c s now id k None is = refl
 sem_of b c s now id k (Some t) is = absurd (cc is)
 
-sem_in : (b c : Base) (s now : SemFlags) (id : ℕ) (slot : Option Semaphore) → now.counts ≡ s.counts → SameQueue b c (sem_object id) → serve_sem_at b s id slot ≡ None → serve_sem_at c now id slot ≡ None
+sem_in : (b c : Base) (s now : SemFlags) (id : ℕ) (slot : Option Semaphore) → now.counts ≡ s.counts → SameQueue b c (sem_object id) → serve_sem_at b s id slot ≡ None →
+    serve_sem_at c now id slot ≡ None
 sem_in b c s now id None counts queues is = refl
 sem_in b c s now id (Some k) counts queues is =
     ap (λ waiters. serve_sem_of c now id k (sem_pick k.any_place (is_there now k) waiters)) (queues k.order)
@@ -68,7 +69,8 @@ flag_of : (b c : Base) (s now : SemFlags) (id : ℕ) (k : EventFlag) (found : Op
 flag_of b c s now id k None is = refl
 flag_of b c s now id k (Some t) is = absurd (cc is)
 
-flag_in : (b c : Base) (s now : SemFlags) (id : ℕ) (slot : Option EventFlag) → now.wishes ≡ s.wishes → SameQueue b c (flag_object id) → serve_flag_at b s id slot ≡ None → serve_flag_at c now id slot ≡ None
+flag_in : (b c : Base) (s now : SemFlags) (id : ℕ) (slot : Option EventFlag) → now.wishes ≡ s.wishes → SameQueue b c (flag_object id) → serve_flag_at b s id slot ≡ None →
+    serve_flag_at c now id slot ≡ None
 flag_in b c s now id None wishes queues is = refl
 flag_in b c s now id (Some k) wishes queues is =
     ap (λ waiters. serve_flag_of c now id k (find (is_fulfilled now k) waiters)) (queues k.order)
@@ -88,14 +90,16 @@ none_of_two None later is = (refl, is)
 none_of_two (Some found) later is = absurd (cc is)
 
 -- where neither the semaphores nor the event flags serve anyone, each of both don't
-pub both_none : (b : Base) (s : SemFlags) → serve_sem_flag b s ≡ None → (first_serving (serve_sem b s) (taken_from 1 (drop 1 s.sems)) ≡ None) × (first_serving (serve_flag b s) (taken_from 1 (drop 1 s.flags)) ≡ None)
+pub both_none : (b : Base) (s : SemFlags) → serve_sem_flag b s ≡ None →
+    (first_serving (serve_sem b s) (taken_from 1 (drop 1 s.sems)) ≡ None) × (first_serving (serve_flag b s) (taken_from 1 (drop 1 s.flags)) ≡ None)
 unfolding serve_sem_flag
 both_none b s is =
     let both = none_of_two (first_served (serve_sem b s) (taken_from 1 (drop 1 s.sems))) (first_served (serve_flag b s) (taken_from 1 (drop 1 s.flags))) is in
     (sym (served_first (serve_sem b s) (taken_from 1 (drop 1 s.sems))) ∙ both.0, sym (served_first (serve_flag b s) (taken_from 1 (drop 1 s.flags))) ∙ both.1)
 
 -- what semaphores and flags serve first, by the first of each
-pub sem_flag_firsts : (b : Base) (s : SemFlags) → serve_sem_flag b s ≡ or_else (first_serving (serve_sem b s) (taken_from 1 (drop 1 s.sems))) (first_serving (serve_flag b s) (taken_from 1 (drop 1 s.flags)))
+pub sem_flag_firsts : (b : Base) (s : SemFlags) →
+    serve_sem_flag b s ≡ or_else (first_serving (serve_sem b s) (taken_from 1 (drop 1 s.sems))) (first_serving (serve_flag b s) (taken_from 1 (drop 1 s.flags)))
 unfolding serve_sem_flag
 sem_flag_firsts b s =
     ap (λ here. or_else here (first_served (serve_flag b s) (taken_from 1 (drop 1 s.flags)))) (served_first (serve_sem b s) (taken_from 1 (drop 1 s.sems)))
@@ -137,7 +141,8 @@ mutexes_still b c m queues is = none_still (serve_mutex b m) (serve_mutex c m) m
 
 -- ---- mailboxes
 
-box_by : (p q : MailParts) (id : ℕ) (k : Mailbox) (waiters : List ℕ) (messages : List Message) → box_serves p id k waiters messages ≡ None → box_serves q id k waiters messages ≡ None
+box_by : (p q : MailParts) (id : ℕ) (k : Mailbox) (waiters : List ℕ) (messages : List Message) → box_serves p id k waiters messages ≡ None →
+    box_serves q id k waiters messages ≡ None
 box_by p q id k [] messages is = refl
 box_by p q id k (t ∷ waiters) [] is = refl
 box_by p q id k (t ∷ waiters) (first ∷ rest) is = absurd (cc is)
@@ -151,7 +156,8 @@ pub box_still : (p q : MailParts) (id : ℕ) → box_at q.table id ≡ box_at p.
 unfolding serve_box
 box_still p q id same queues is = ap (serve_box_at q id) same ∙ box_in p q id (box_at p.table id) queues is
 
-pub boxes_still : (p q : MailParts) → q.table.boxes ≡ p.table.boxes → ((id : ℕ) → IsIn p.table.boxes id → SameQueue p.base q.base (box_object id)) → serve_mailboxes p ≡ None → serve_mailboxes q ≡ None
+pub boxes_still : (p q : MailParts) → q.table.boxes ≡ p.table.boxes → ((id : ℕ) → IsIn p.table.boxes id → SameQueue p.base q.base (box_object id)) → serve_mailboxes p ≡ None →
+    serve_mailboxes q ≡ None
 unfolding serve_mailboxes
 boxes_still p q same queues is =
     none_still (serve_box p) (serve_box q) p.table.boxes q.table.boxes (ap length same) (ap (λ table. taken_from 1 (drop 1 table)) same)
@@ -164,15 +170,18 @@ space_if true now one other same is = absurd (cc is)
 space_if false true one other same is = absurd (cc same)
 space_if false false one other same is = refl
 
-buffer_by : (p q : MailParts) (id : ℕ) (k : MessageBuffer) (receiver sender : Option ℕ) (messages : List (List ℕ)) → q.table.sending ≡ p.table.sending → buffer_serves p id k receiver sender messages ≡ None → buffer_serves q id k receiver sender messages ≡ None
+buffer_by : (p q : MailParts) (id : ℕ) (k : MessageBuffer) (receiver sender : Option ℕ) (messages : List (List ℕ)) → q.table.sending ≡ p.table.sending →
+    buffer_serves p id k receiver sender messages ≡ None → buffer_serves q id k receiver sender messages ≡ None
 buffer_by p q id k (Some receiver) sender (oldest ∷ later) sending is = absurd (cc is)
 buffer_by p q id k (Some receiver) (Some sender) [] sending is = absurd (cc is)
 buffer_by p q id k (Some receiver) None [] sending is = refl
 buffer_by p q id k None (Some sender) messages sending is =
-    space_if (has_space k (bytes_of p.table sender)) (has_space k (bytes_of q.table sender)) _ _ (ap (λ (all : List (List ℕ)). has_space k (slice_index_or all sender [])) sending) is
+    space_if (has_space k (bytes_of p.table sender)) (has_space k (bytes_of q.table sender)) _ _
+    (ap (λ (all : List (List ℕ)). has_space k (slice_index_or all sender [])) sending) is
 buffer_by p q id k None None messages sending is = refl
 
-buffer_in : (p q : MailParts) (id : ℕ) (slot : Option MessageBuffer) → q.table.sending ≡ p.table.sending → SameQueue p.base q.base (senders_object id) → SameQueue p.base q.base (receivers_object id) →
+buffer_in : (p q : MailParts) (id : ℕ) (slot : Option MessageBuffer) → q.table.sending ≡ p.table.sending → SameQueue p.base q.base (senders_object id) →
+    SameQueue p.base q.base (receivers_object id) →
     serve_buffer_at p id slot ≡ None → serve_buffer_at q id slot ≡ None
 buffer_in p q id None sending sends receives is = refl
 buffer_in p q id (Some k) sending sends receives is =
@@ -181,12 +190,14 @@ buffer_in p q id (Some k) sending sends receives is =
     ∙ buffer_by p q id k (first_of (receivers p.base id)) (first_of (senders p.base k id)) k.messages sending is
 
 -- a message buffer serves nobody still
-pub buffer_still : (p q : MailParts) (id : ℕ) → buffer_at q.table id ≡ buffer_at p.table id → q.table.sending ≡ p.table.sending → SameQueue p.base q.base (senders_object id) → SameQueue p.base q.base (receivers_object id) →
+pub buffer_still : (p q : MailParts) (id : ℕ) → buffer_at q.table id ≡ buffer_at p.table id → q.table.sending ≡ p.table.sending → SameQueue p.base q.base (senders_object id) →
+    SameQueue p.base q.base (receivers_object id) →
     serve_buffer p id ≡ None → serve_buffer q id ≡ None
 unfolding serve_buffer
 buffer_still p q id same sending sends receives is = ap (serve_buffer_at q id) same ∙ buffer_in p q id (buffer_at p.table id) sending sends receives is
 
-pub buffers_still : (p q : MailParts) → q.table.buffers ≡ p.table.buffers → q.table.sending ≡ p.table.sending → ((id : ℕ) → IsIn p.table.buffers id → SameQueue p.base q.base (senders_object id)) →
+pub buffers_still : (p q : MailParts) → q.table.buffers ≡ p.table.buffers → q.table.sending ≡ p.table.sending →
+    ((id : ℕ) → IsIn p.table.buffers id → SameQueue p.base q.base (senders_object id)) →
     ((id : ℕ) → IsIn p.table.buffers id → SameQueue p.base q.base (receivers_object id)) → serve_buffers p ≡ None → serve_buffers q ≡ None
 unfolding serve_buffers
 buffers_still p q same sending sends receives is =
@@ -205,11 +216,13 @@ fixed_in p q id None queues is = refl
 fixed_in p q id (Some k) queues is = ap (λ waiters. fixed_serves q id k waiters (free_block k)) (queues k.order) ∙ fixed_by p q id k (fixed_waiters p.base k id) (free_block k) is
 
 -- a fixed pool serves nobody still
-pub fixed_still : (p q : PoolParts) (id : ℕ) → fixed_at q.table id ≡ fixed_at p.table id → SameQueue p.base q.base (fixed_object id) → serve_fixed p id ≡ None → serve_fixed q id ≡ None
+pub fixed_still : (p q : PoolParts) (id : ℕ) → fixed_at q.table id ≡ fixed_at p.table id → SameQueue p.base q.base (fixed_object id) → serve_fixed p id ≡ None →
+    serve_fixed q id ≡ None
 unfolding serve_fixed
 fixed_still p q id same queues is = ap (serve_fixed_at q id) same ∙ fixed_in p q id (fixed_at p.table id) queues is
 
-pub fixed_pools_still : (p q : PoolParts) → q.table.fixed ≡ p.table.fixed → ((id : ℕ) → IsIn p.table.fixed id → SameQueue p.base q.base (fixed_object id)) → serve_fixed_pools p ≡ None → serve_fixed_pools q ≡ None
+pub fixed_pools_still : (p q : PoolParts) → q.table.fixed ≡ p.table.fixed → ((id : ℕ) → IsIn p.table.fixed id → SameQueue p.base q.base (fixed_object id)) →
+    serve_fixed_pools p ≡ None → serve_fixed_pools q ≡ None
 unfolding serve_fixed_pools
 fixed_pools_still p q same queues is =
     none_still (serve_fixed p) (serve_fixed q) p.table.fixed q.table.fixed (ap length same) (ap (λ table. taken_from 1 (drop 1 table)) same)
@@ -219,21 +232,25 @@ given_by : (p q : PoolParts) (id : ℕ) (k : VariablePool) (t : ℕ) (place : Op
 given_by p q id k t None is = refl
 given_by p q id k t (Some offset) is = absurd (cc is)
 
-variable_by : (p q : PoolParts) (id : ℕ) (k : VariablePool) (waiters : List ℕ) → q.table.sizes ≡ p.table.sizes → variable_serves p id k waiters ≡ None → variable_serves q id k waiters ≡ None
+variable_by : (p q : PoolParts) (id : ℕ) (k : VariablePool) (waiters : List ℕ) → q.table.sizes ≡ p.table.sizes → variable_serves p id k waiters ≡ None →
+    variable_serves q id k waiters ≡ None
 variable_by p q id k [] sizes is = refl
 variable_by p q id k (t ∷ waiters) sizes is =
     ap (λ (all : List ℕ). block_given q id k t (place_in k (slice_index all t))) sizes ∙ given_by p q id k t (place_in k (size_of p.table t)) is
 
-variable_in : (p q : PoolParts) (id : ℕ) (slot : Option VariablePool) → q.table.sizes ≡ p.table.sizes → SameQueue p.base q.base (variable_object id) → serve_variable_at p id slot ≡ None → serve_variable_at q id slot ≡ None
+variable_in : (p q : PoolParts) (id : ℕ) (slot : Option VariablePool) → q.table.sizes ≡ p.table.sizes → SameQueue p.base q.base (variable_object id) →
+    serve_variable_at p id slot ≡ None → serve_variable_at q id slot ≡ None
 variable_in p q id None sizes queues is = refl
 variable_in p q id (Some k) sizes queues is = ap (λ waiters. variable_serves q id k waiters) (queues k.order) ∙ variable_by p q id k (variable_waiters p.base k id) sizes is
 
 -- a variable pool serves nobody still
-pub variable_still : (p q : PoolParts) (id : ℕ) → variable_at q.table id ≡ variable_at p.table id → q.table.sizes ≡ p.table.sizes → SameQueue p.base q.base (variable_object id) → serve_variable p id ≡ None → serve_variable q id ≡ None
+pub variable_still : (p q : PoolParts) (id : ℕ) → variable_at q.table id ≡ variable_at p.table id → q.table.sizes ≡ p.table.sizes →
+    SameQueue p.base q.base (variable_object id) → serve_variable p id ≡ None → serve_variable q id ≡ None
 unfolding serve_variable
 variable_still p q id same sizes queues is = ap (serve_variable_at q id) same ∙ variable_in p q id (variable_at p.table id) sizes queues is
 
-pub variable_pools_still : (p q : PoolParts) → q.table.variable ≡ p.table.variable → q.table.sizes ≡ p.table.sizes → ((id : ℕ) → IsIn p.table.variable id → SameQueue p.base q.base (variable_object id)) → serve_variable_pools p ≡ None → serve_variable_pools q ≡ None
+pub variable_pools_still : (p q : PoolParts) → q.table.variable ≡ p.table.variable → q.table.sizes ≡ p.table.sizes →
+    ((id : ℕ) → IsIn p.table.variable id → SameQueue p.base q.base (variable_object id)) → serve_variable_pools p ≡ None → serve_variable_pools q ≡ None
 unfolding serve_variable_pools
 variable_pools_still p q same sizes queues is =
     none_still (serve_variable p) (serve_variable q) p.table.variable q.table.variable (ap length same) (ap (λ table. taken_from 1 (drop 1 table)) same)
@@ -249,7 +266,8 @@ acceptance_none : (p : DevParts) (c : Base) (mails : Mails) (d : ℕ) (waiters :
 acceptance_none p c mails d [] is = refl
 acceptance_none p c mails d (t ∷ ts) is = place_none p (devices_to p c mails) (has_place p.table d) d t refl is
 
-pub acceptances_still : (p : DevParts) (c : Base) (mails : Mails) → ((d : ℕ) → 1 ≤ d → SameQueue p.base c (acceptance_object d)) → serve_acceptances p ≡ None → serve_acceptances (devices_to p c mails) ≡ None
+pub acceptances_still : (p : DevParts) (c : Base) (mails : Mails) → ((d : ℕ) → 1 ≤ d → SameQueue p.base c (acceptance_object d)) → serve_acceptances p ≡ None →
+    serve_acceptances (devices_to p c mails) ≡ None
 unfolding serve_acceptances serve_acceptance
 acceptances_still p c mails queues is =
     none_still (serve_acceptance p) (serve_acceptance (devices_to p c mails)) p.table.links p.table.links refl refl
@@ -259,7 +277,8 @@ ending_by : (p : DevParts) (c : Base) (mails : Mails) (dd : ℕ) (found : Option
 ending_by p c mails dd None is = refl
 ending_by p c mails dd (Some t) is = claimed_none p (devices_to p c mails) t (picked p.table dd (wish_of p.table t)) is
 
-pub endings_still : (p : DevParts) (c : Base) (mails : Mails) → ((dd : ℕ) → 1 ≤ dd → SameQueue p.base c (ending_object dd)) → serve_endings p ≡ None → serve_endings (devices_to p c mails) ≡ None
+pub endings_still : (p : DevParts) (c : Base) (mails : Mails) → ((dd : ℕ) → 1 ≤ dd → SameQueue p.base c (ending_object dd)) → serve_endings p ≡ None →
+    serve_endings (devices_to p c mails) ≡ None
 unfolding serve_endings serve_ending
 endings_still p c mails queues is =
     none_still (serve_ending p) (serve_ending (devices_to p c mails)) p.table.opened p.table.opened refl refl
@@ -273,7 +292,8 @@ close_none : (p : DevParts) (c : Base) (mails : Mails) (dd : ℕ) (waiters : Lis
 close_none p c mails dd [] is = refl
 close_none p c mails dd (t ∷ ts) is = closed_by (is_with_driver p.table dd) p c mails dd t is
 
-pub closes_still : (p : DevParts) (c : Base) (mails : Mails) → ((dd : ℕ) → 1 ≤ dd → SameQueue p.base c (close_object dd)) → serve_closes p ≡ None → serve_closes (devices_to p c mails) ≡ None
+pub closes_still : (p : DevParts) (c : Base) (mails : Mails) → ((dd : ℕ) → 1 ≤ dd → SameQueue p.base c (close_object dd)) → serve_closes p ≡ None →
+    serve_closes (devices_to p c mails) ≡ None
 unfolding serve_closes serve_close
 closes_still p c mails queues is =
     none_still (serve_close p) (serve_close (devices_to p c mails)) p.table.opened p.table.opened refl refl
@@ -287,6 +307,7 @@ suspension_none : (p : DevParts) (c : Base) (mails : Mails) (waiters : List ℕ)
 suspension_none p c mails [] is = refl
 suspension_none p c mails (t ∷ ts) is = suspended_by (any_given p.table) p c mails t is
 
-pub suspension_still : (p : DevParts) (c : Base) (mails : Mails) → SameQueue p.base c suspension_object → serve_suspension p ≡ None → serve_suspension (devices_to p c mails) ≡ None
+pub suspension_still : (p : DevParts) (c : Base) (mails : Mails) → SameQueue p.base c suspension_object → serve_suspension p ≡ None →
+    serve_suspension (devices_to p c mails) ≡ None
 unfolding serve_suspension
 suspension_still p c mails queues is = ap (suspension_by (devices_to p c mails)) (queues Fifo) ∙ suspension_none p c mails (fifo_queue p.base suspension_object) is

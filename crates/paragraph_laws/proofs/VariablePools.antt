@@ -45,7 +45,8 @@ use Rattle.paragraph_laws.proofs.Tables.{alone_serves, none_serves, stands_none}
 -- ---- the kinds
 
 -- once a task has joined the waiters of a variable pool, or was served by one, other kinds serve nobody
-but_variable : (p : Parts) (c : Base) (m : Pools) (id : ℕ) → AreShort p.objects → 1 ≤ id → id ≤ 64 → AwayFrom p.base c (variable_object id) → m.fixed ≡ p.objects.pools.fixed → NoneOf p → NoneBut 5 kinds (pools_to p c m)
+but_variable : (p : Parts) (c : Base) (m : Pools) (id : ℕ) → AreShort p.objects → 1 ≤ id → id ≤ 64 → AwayFrom p.base c (variable_object id) → m.fixed ≡ p.objects.pools.fixed →
+    NoneOf p → NoneBut 5 kinds (pools_to p c m)
 unfolding NoneBut AllKinds
 but_variable p c m id short one most away fixed none =
     let q : Parts = pools_to p c m in
@@ -68,21 +69,24 @@ but_variable p c m id short one most away fixed none =
     )
 
 -- so what is served first is what the variable pools serve
-variable_first : (p : Parts) (c : Base) (m : Pools) (id : ℕ) → AreShort p.objects → 1 ≤ id → id ≤ 64 → AwayFrom p.base c (variable_object id) → m.fixed ≡ p.objects.pools.fixed → NoneOf p →
+variable_first : (p : Parts) (c : Base) (m : Pools) (id : ℕ) → AreShort p.objects → 1 ≤ id → id ≤ 64 → AwayFrom p.base c (variable_object id) → m.fixed ≡ p.objects.pools.fixed →
+    NoneOf p →
     serve_object (pools_to p c m) ≡ option_map (with_pools (pools_to p c m)) (serve_variable_pools (pool_parts (pools_to p c m)))
 unfolding serve_object
 variable_first p c m id short one most away fixed none = only_kind 5 kinds (pools_to p c m) (but_variable p c m id short one most away fixed none)
 
 -- ---- places
 
-apart_if : (offset n : ℕ) (block first : Block) (rest inserted : List Block) (test : Bool) → AreApartFrom offset n (cond test (block ∷ first ∷ rest) (first ∷ inserted)) → (AreApartFrom offset n inserted → AreApartFrom offset n rest) →
+apart_if : (offset n : ℕ) (block first : Block) (rest inserted : List Block) (test : Bool) → AreApartFrom offset n (cond test (block ∷ first ∷ rest) (first ∷ inserted)) →
+    (AreApartFrom offset n inserted → AreApartFrom offset n rest) →
     AreApartFrom offset n (first ∷ rest)
 apart_if offset n block first rest inserted true apart fewer = apart.1
 apart_if offset n block first rest inserted false apart fewer = (apart.0, fewer apart.1)
 
 apart_fewer : (offset n : ℕ) (block : Block) (blocks : List Block) → AreApartFrom offset n (insert_block block blocks) → AreApartFrom offset n blocks
 apart_fewer offset n block [] apart = tt
-apart_fewer offset n block (first ∷ rest) apart = apart_if offset n block first rest (insert_block block rest) (nat_lt block.offset first.offset) apart (apart_fewer offset n block rest)
+apart_fewer offset n block (first ∷ rest) apart = apart_if offset n block first rest (insert_block block rest) (nat_lt block.offset first.offset) apart
+    (apart_fewer offset n block rest)
 
 -- a pool with a block more
 abbrev fuller : VariablePool → Block → VariablePool
@@ -95,7 +99,8 @@ nowhere_if k block n (Some offset) lie is none =
     absurd (pool_nowhere k n offset none (record { inside = fit.inside; apart = apart_fewer offset n block k.blocks fit.apart }))
 
 -- what had no place in a pool has none in it with a block more
-still_nowhere : (k : VariablePool) (offset size n : ℕ) → LieApart k → 0 < size → place_in k size ≡ Some offset → place_in k n ≡ None → place_in (fuller k (record { offset = offset; size = size })) n ≡ None
+still_nowhere : (k : VariablePool) (offset size n : ℕ) → LieApart k → 0 < size → place_in k size ≡ Some offset → place_in k n ≡ None →
+    place_in (fuller k (record { offset = offset; size = size })) n ≡ None
 still_nowhere k offset size n lie some placed_at none =
     let block : Block = record { offset = offset; size = size } in
     nowhere_if k block n (place_in (fuller k block) n) (lie_joined 0 k.size size offset k.blocks lie some placed_at) refl none
@@ -110,7 +115,8 @@ no_place p id k t (Some offset) none = absurd (cc none)
 abbrev OthersAsk : Pools → Pools → ℕ → Type 0
 OthersAsk m now t = (u : ℕ) → (u ≡ t → ⊥) → size_of now u ≡ size_of m u
 
-full_still : (p q : PoolParts) (t id : ℕ) (k now : VariablePool) (waiters : List ℕ) → times t waiters ≡ 0 → OthersAsk p.table q.table t → ((n : ℕ) → place_in k n ≡ None → place_in now n ≡ None) →
+full_still : (p q : PoolParts) (t id : ℕ) (k now : VariablePool) (waiters : List ℕ) → times t waiters ≡ 0 → OthersAsk p.table q.table t →
+    ((n : ℕ) → place_in k n ≡ None → place_in now n ≡ None) →
     variable_serves p id k waiters ≡ None → variable_serves q id now waiters ≡ None
 full_still p q t id k now [] absent others fuller none = refl
 full_still p q t id k now (first ∷ rest) absent others fuller none =
@@ -118,16 +124,19 @@ full_still p q t id k now (first ∷ rest) absent others fuller none =
     ∙ ap (block_given q id now first) (fuller (size_of p.table first) (no_place p id k first (place_in k (size_of p.table first)) none))
 
 -- can't, with its queue as it stood and no more places, whatever a task asks for that doesn't wait for it
-pool_still : (p q : PoolParts) (t id : ℕ) (k now : VariablePool) → now.order ≡ k.order → variable_at p.table id ≡ Some k → variable_at q.table id ≡ Some now → SameQueue p.base q.base (variable_object id) → waits_for p.base (variable_object id) t ≡ false →
+pool_still : (p q : PoolParts) (t id : ℕ) (k now : VariablePool) → now.order ≡ k.order → variable_at p.table id ≡ Some k → variable_at q.table id ≡ Some now →
+    SameQueue p.base q.base (variable_object id) → waits_for p.base (variable_object id) t ≡ false →
     OthersAsk p.table q.table t → ((n : ℕ) → place_in k n ≡ None → place_in now n ≡ None) → serve_variable p id ≡ None → serve_variable q id ≡ None
 unfolding serve_variable
 pool_still p q t id k now order at then queues idle others fuller none =
     ap (serve_variable_at q id) then
     ∙ ap (λ by. variable_serves q id now (queue by q.base (variable_object id))) order
     ∙ ap (variable_serves q id now) (queues k.order)
-    ∙ full_still p q t id k now (variable_waiters p.base k id) (queue_absent k.order p.base t (variable_object id) idle) others fuller (ap (serve_variable_at p id) (sym at) ∙ none)
+    ∙ full_still p q t id k now (variable_waiters p.base k id) (queue_absent k.order p.base t (variable_object id) idle) others fuller
+    (ap (serve_variable_at p id) (sym at) ∙ none)
 
-slot_still : (p q : PoolParts) (t id : ℕ) (slot : Option VariablePool) → variable_at p.table id ≡ slot → variable_at q.table id ≡ slot → SameQueue p.base q.base (variable_object id) → waits_for p.base (variable_object id) t ≡ false →
+slot_still : (p q : PoolParts) (t id : ℕ) (slot : Option VariablePool) → variable_at p.table id ≡ slot → variable_at q.table id ≡ slot →
+    SameQueue p.base q.base (variable_object id) → waits_for p.base (variable_object id) t ≡ false →
     OthersAsk p.table q.table t → serve_variable p id ≡ None → serve_variable q id ≡ None
 unfolding serve_variable
 slot_still p q t id None at then queues idle others none = ap (serve_variable_at q id) then
@@ -139,7 +148,8 @@ each_variable p id one none None at = ap (serve_variable_at p id) at
 each_variable p id one none (Some k) at = stands_none (serve_variable p) id p.table.variable k one at none
 
 -- once a task has joined the waiters of a variable pool, no other one serves anybody
-variable_alone : (p q : PoolParts) (t id : ℕ) (k : VariablePool) → MayWait p.base t → 1 ≤ id → variable_at p.table id ≡ Some k → q.table.variable ≡ p.table.variable → OthersAsk p.table q.table t → AwayFrom p.base q.base (variable_object id) →
+variable_alone : (p q : PoolParts) (t id : ℕ) (k : VariablePool) → MayWait p.base t → 1 ≤ id → variable_at p.table id ≡ Some k → q.table.variable ≡ p.table.variable →
+    OthersAsk p.table q.table t → AwayFrom p.base q.base (variable_object id) →
     serve_variable_pools p ≡ None → serve_variable_pools q ≡ serve_variable q id
 unfolding serve_variable_pools
 variable_alone p q t id k may one at same others away none =
@@ -147,8 +157,10 @@ variable_alone p q t id k may one at same others away none =
     (λ other in_it apart. slot_still p q t other (variable_at p.table other) refl (ap (λ table. entry table other) same) (away (variable_object other) (λ e. apart (omega (arith, e)))) (ready_for_none p.base t (variable_object other) may) others
     (each_variable p other in_it.0 none (variable_at p.table other) refl))
 
-done_if : (p q : PoolParts) (t id other : ℕ) (k now : VariablePool) (same : Bool) → (other == id) ≡ same → now.order ≡ k.order → variable_at p.table id ≡ Some k → variable_at q.table id ≡ Some now → ((other ≡ id → ⊥) → variable_at q.table other ≡ variable_at p.table other) →
-    SameQueue p.base q.base (variable_object other) → waits_for p.base (variable_object other) t ≡ false → OthersAsk p.table q.table t → ((n : ℕ) → place_in k n ≡ None → place_in now n ≡ None) → serve_variable p other ≡ None → serve_variable q other ≡ None
+done_if : (p q : PoolParts) (t id other : ℕ) (k now : VariablePool) (same : Bool) → (other == id) ≡ same → now.order ≡ k.order → variable_at p.table id ≡ Some k →
+    variable_at q.table id ≡ Some now → ((other ≡ id → ⊥) → variable_at q.table other ≡ variable_at p.table other) →
+    SameQueue p.base q.base (variable_object other) → waits_for p.base (variable_object other) t ≡ false → OthersAsk p.table q.table t →
+    ((n : ℕ) → place_in k n ≡ None → place_in now n ≡ None) → serve_variable p other ≡ None → serve_variable q other ≡ None
 done_if p q t id other k now true is order at then apart queues idle others fuller none =
     let e : other ≡ id = grind (arith, nat_tests, is) in
     pool_still p q t other k now order (ap (variable_at p.table) e ∙ at) (ap (variable_at q.table) e ∙ then) queues idle others fuller none
@@ -156,7 +168,8 @@ done_if p q t id other k now false is order at then apart queues idle others ful
     slot_still p q t other (variable_at p.table other) refl (apart (apart_of other id is)) queues idle others none
 
 -- and once it was served none does
-variable_done : (p q : PoolParts) (t id : ℕ) (k now : VariablePool) → MayWait p.base t → variable_at p.table id ≡ Some k → q.table.variable ≡ slice_set p.table.variable id (Some now) → now.order ≡ k.order → OthersAsk p.table q.table t →
+variable_done : (p q : PoolParts) (t id : ℕ) (k now : VariablePool) → MayWait p.base t → variable_at p.table id ≡ Some k →
+    q.table.variable ≡ slice_set p.table.variable id (Some now) → now.order ≡ k.order → OthersAsk p.table q.table t →
     ((other : ℕ) → SameQueue p.base q.base other) → ((n : ℕ) → place_in k n ≡ None → place_in now n ≡ None) → serve_variable_pools p ≡ None → serve_variable_pools q ≡ None
 unfolding serve_variable_pools
 variable_done p q t id k now may at is order others queues fuller none =
@@ -167,7 +180,8 @@ variable_done p q t id k now may at is order others queues fuller none =
 
 -- ---- who is served once the task has joined
 
-first_if : (p q : PoolParts) (t id n first : ℕ) (k : VariablePool) (rest behind : List ℕ) (before : Bool) → (first ≡ t → ⊥) → size_of q.table t ≡ n → OthersAsk p.table q.table t → variable_serves p id k (first ∷ rest) ≡ None →
+first_if : (p q : PoolParts) (t id n first : ℕ) (k : VariablePool) (rest behind : List ℕ) (before : Bool) → (first ≡ t → ⊥) → size_of q.table t ≡ n →
+    OthersAsk p.table q.table t → variable_serves p id k (first ∷ rest) ≡ None →
     variable_serves q id k (cond before (t ∷ first ∷ rest) (first ∷ behind)) ≡ block_given q id k t (place_for before k n)
 first_if p q t id n first k rest behind true apart asked others none = ap (λ size. block_given q id k t (place_in k size)) asked
 first_if p q t id n first k rest behind false apart asked others none =
@@ -175,24 +189,29 @@ first_if p q t id n first k rest behind false apart asked others none =
     ∙ ap (block_given q id k first) (no_place p id k first (place_in k (size_of p.table first)) none)
 
 -- the task, if it would be the first and has a place
-variable_joined : (order : Order) (p q : PoolParts) (t id n : ℕ) (k : VariablePool) (waiters : List ℕ) → times t waiters ≡ 0 → size_of q.table t ≡ n → OthersAsk p.table q.table t → variable_serves p id k waiters ≡ None →
+variable_joined : (order : Order) (p q : PoolParts) (t id n : ℕ) (k : VariablePool) (waiters : List ℕ) → times t waiters ≡ 0 → size_of q.table t ≡ n →
+    OthersAsk p.table q.table t → variable_serves p id k waiters ≡ None →
     variable_serves q id k (joined order (current p.base) t waiters) ≡ block_given q id k t (place_for (would_be_first order p.base t waiters) k n)
 variable_joined Fifo p q t id n k [] absent asked others none = ap (λ size. block_given q id k t (place_in k size)) asked
 variable_joined Priority p q t id n k [] absent asked others none = ap (λ size. block_given q id k t (place_in k size)) asked
-variable_joined Fifo p q t id n k (first ∷ rest) absent asked others none = first_if p q t id n first k rest (rest ++ t ∷ []) false (apart_from_first t first rest absent) asked others none
+variable_joined Fifo p q t id n k (first ∷ rest) absent asked others none = first_if p q t id n first k rest (rest ++ t ∷ []) false
+    (apart_from_first t first rest absent) asked others none
 variable_joined Priority p q t id n k (first ∷ rest) absent asked others none =
-    first_if p q t id n first k rest (insert_behind (current p.base) t rest) (nat_lt (current p.base t) (current p.base first)) (apart_from_first t first rest absent) asked others none
+    first_if p q t id n first k rest (insert_behind (current p.base) t rest) (nat_lt (current p.base t) (current p.base first))
+    (apart_from_first t first rest absent) asked others none
 
 has_place : (first : Bool) (k : VariablePool) (n offset : ℕ) → place_for first k n ≡ Some offset → place_in k n ≡ Some offset
 has_place true k n offset is = is
 has_place false k n offset is = absurd (cc is)
 
-variable_case : (mode : Mode) (p : Parts) (t id n : ℕ) (timeout : ℤ) (k : VariablePool) (place : Option ℕ) → ((offset : ℕ) → place ≡ Some offset → place_in k n ≡ Some offset) → LieApart k → 0 < n → MayWait p.base t → AreShort p.objects → 1 ≤ id → id ≤ 64 →
+variable_case : (mode : Mode) (p : Parts) (t id n : ℕ) (timeout : ℤ) (k : VariablePool) (place : Option ℕ) → ((offset : ℕ) → place ≡ Some offset → place_in k n ≡ Some offset) →
+    LieApart k → 0 < n → MayWait p.base t → AreShort p.objects → 1 ≤ id → id ≤ 64 →
     variable_at p.objects.pools id ≡ Some k → size_of (asked_size p.objects.pools t n) t ≡ n → OthersAsk p.objects.pools (asked_size p.objects.pools t n) t → HasSettled mode p →
     let c : Base = make_wait p.base t (variable_object id) k.order timeout in
     let asked : Pools = asked_size p.objects.pools t n in
     serve_variable_pools (record { base = c; table = asked }) ≡ block_given (record { base = c; table = asked }) id k t place →
-    pool_waits p (placed (pool_parts p) t id n timeout k place) ≡ after_settling p t timeout (settle mode (joins p t (variable_object id) k.order timeout (record p.objects { pools = asked })))
+    pool_waits p (placed (pool_parts p) t id n timeout k place) ≡ after_settling p t timeout
+    (settle mode (joins p t (variable_object id) k.order timeout (record p.objects { pools = asked })))
 variable_case mode p t id n timeout k None found lie some may short one most at asks others settled own =
     let c : Base = make_wait p.base t (variable_object id) k.order timeout in
     let asked : Pools = asked_size p.objects.pools t n in
@@ -225,7 +244,8 @@ variable_case mode p t id n timeout k (Some offset) found lie some may short one
     λ m is. ap (λ size. place_in (fuller k (record { offset = offset; size = size })) m) asks ∙ still_nowhere k offset n m lie some (found offset refl) is in
     let done : serve_object served ≡ None =
     variable_first p d left id short one most (λ other apart. rejoined other) refl none
-    ∙ ap (option_map (with_pools served)) (variable_done (pool_parts p) (pool_parts served) t id k (fuller k (record { offset = offset; size = size_of asked t })) may at refl refl others rejoined nowhere none.variable) in
+    ∙ ap (option_map (with_pools served))
+    (variable_done (pool_parts p) (pool_parts served) t id k (fuller k (record { offset = offset; size = size_of asked t })) may at refl refl others rejoined nowhere none.variable) in
     sym (returns_once mode p now served t timeout result up
     (variable_first p c asked id short one most away refl none ∙ ap (option_map (with_pools now)) own)
     (record {
@@ -234,12 +254,15 @@ variable_case mode p t id n timeout k (Some offset) found lie some may short one
       given = given_still mode p served refl (rejoined 648) settled.given;
     })
     (joined_waits p.base t (variable_object id) k.order timeout may) refl
-    ∙ ap (λ base. record { parts = pools_to p base (given (size_of asked t) p.objects.pools); outcome = Returned result }) (base_back p.base t (variable_object id) k.order timeout result may)
+    ∙ ap (λ base. record { parts = pools_to p base (given (size_of asked t) p.objects.pools); outcome = Returned result })
+    (base_back p.base t (variable_object id) k.order timeout result may)
     ∙ ap (λ size. record { parts = pools_to p p.base (given size p.objects.pools); outcome = Returned result }) asks)
 
 -- a call for a block of a variable pool does what the paragraph says
-pub variable_call_is_paragraph : (mode : Mode) (p : Parts) (t id n : ℕ) (timeout : ℤ) (k : VariablePool) → IsSettled mode p → MayWait p.base t → 1 ≤ id → variable_at p.objects.pools id ≡ Some k → LieApart k → 0 < n → t < length p.objects.pools.sizes →
-    pool_waits p (got_from_variable (pool_parts p) t id n timeout (Some k)) ≡ paragraph mode p t (variable_object id) k.order timeout (record p.objects { pools = asked_size p.objects.pools t n })
+pub variable_call_is_paragraph : (mode : Mode) (p : Parts) (t id n : ℕ) (timeout : ℤ) (k : VariablePool) → IsSettled mode p → MayWait p.base t → 1 ≤ id →
+    variable_at p.objects.pools id ≡ Some k → LieApart k → 0 < n → t < length p.objects.pools.sizes →
+    pool_waits p (got_from_variable (pool_parts p) t id n timeout (Some k)) ≡ paragraph mode p t (variable_object id) k.order timeout
+    (record p.objects { pools = asked_size p.objects.pools t n })
 unfolding paragraph serve_variable
 variable_call_is_paragraph mode p t id n timeout k settled may one at lie some inside =
     let m : Pools = p.objects.pools in
@@ -252,10 +275,12 @@ variable_call_is_paragraph mode p t id n timeout k settled may one at lie some i
     let none = none_of p settled.unserved in
     let asks : size_of asked t ≡ n = get_or-set_same m.sizes t n 0 inside in
     let others : OthersAsk m asked t = λ u apart. get_or-set_other m.sizes t u n 0 apart in
-    variable_case mode p t id n timeout k (place_for (would_be_first k.order p.base t waiters) k n) (λ offset is. has_place (would_be_first k.order p.base t waiters) k n offset is)
+    variable_case mode p t id n timeout k (place_for (would_be_first k.order p.base t waiters) k n)
+    (λ offset is. has_place (would_be_first k.order p.base t waiters) k n offset is)
     lie some may settled.short one (omega (arith, few, stands)) at asks others (has_settled mode p settled)
     (variable_alone (pool_parts p) q t id k may one at refl others (queue_elsewhere p.base t (variable_object id) k.order timeout may) none.variable
     ∙ ap (serve_variable_at q id) at
     ∙ ap (variable_serves q id k) (queue_joined k.order p.base t (variable_object id) k.order timeout may)
-    ∙ variable_joined k.order (pool_parts p) q t id n k waiters (queue_absent k.order p.base t (variable_object id) (ready_for_none p.base t (variable_object id) may)) asks others
+    ∙ variable_joined k.order (pool_parts p) q t id n k waiters
+    (queue_absent k.order p.base t (variable_object id) (ready_for_none p.base t (variable_object id) may)) asks others
     (ap (serve_variable_at (pool_parts p) id) (sym at) ∙ each_variable (pool_parts p) id one none.variable (Some k) at))

@@ -14,13 +14,17 @@ ghost use Rattle.object_model.specs.Pools.Tables.{FixedPool, VariablePool, fixed
 ghost use Rattle.object_model.specs.Pools.Calls.{got_from_fixed, got_from_variable};
 ghost use Rattle.pool_laws.specs.Blocks.{LieApart};
 ghost use Rattle.pool_laws.specs.Trial.{asked_size};
+ghost use Rattle.machine_model.specs.Events.Rest.{IsAtRest};
 ghost use Rattle.machine_model.specs.States.Objects.{Parts, mail_parts, pool_parts};
-ghost use Rattle.paragraph_laws.specs.Paragraph.{IsSettled, mail_waits, paragraph, pool_waits, sem_flag_waits};
+ghost use Rattle.machine_model.specs.States.State.{State, parts_of};
+ghost use Rattle.paragraph_laws.specs.Paragraph.{AreShort, IsSettled, mail_waits, paragraph, pool_waits, sem_flag_waits};
 
 /// A waiting call does what the paragraph on waiting calls says, with the whole of settling: the caller joins the waiters of its
 /// object, all settles, and the call returns, is over or waits by whether that ended the caller's wait. The parts have settled
-/// before the call, and the caller is ready and has no end of a wait set, as in every state in which a task acts.
+/// before the call, as those of every state at rest whose tables have no more slots than their objects have numbers (`rest`), and
+/// the caller is ready and has no end of a wait set, as in every state in which a task acts.
 pub fn a_waiting_call_is_the_paragraph()
+    ensures rest { (mode : Mode) (st : State) → IsAtRest mode st → AreShort st.objects → IsSettled mode (parts_of st) }
     ensures semaphore { (mode : Mode) (p : Parts) (t id n : ℕ) (timeout : ℤ) (k : Semaphore) → IsSettled mode p → MayWait p.base t → 1 ≤ id →
         sem_at p.objects.sem_flags id ≡ Some k → t < length p.objects.sem_flags.counts →
         sem_flag_waits p (waited_for_sem p.base p.objects.sem_flags t id n timeout (Some k)) ≡
