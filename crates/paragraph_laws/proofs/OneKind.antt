@@ -63,6 +63,7 @@ pub record NoneOf (p : Parts) : Type 0 where
   pub closes : serve_closes (dev_parts p) ≡ None
   pub suspension : serve_suspension (dev_parts p) ≡ None
 
+-- where nobody can be served no kind serves anybody
 pub none_of : (p : Parts) → serve_object p ≡ None → NoneOf p
 unfolding serve_object AllKinds
 none_of p is =
@@ -80,6 +81,7 @@ none_of p is =
       suspension = unmapped _ _ all.1.1.1.1.1.1.1.1.1.0;
     }
 
+-- semaphores and flags serve nobody, once a task has joined the waiters of another object
 pub sem_flags_beside : (p : Parts) (c : Base) (object : ℕ) → AreShort p.objects → AwayFrom p.base c object → IsApart 63 object → IsApart 127 object → NoneOf p →
     serve_sem_flag c p.objects.sem_flags ≡ None
 sem_flags_beside p c object short away sems flags none =
@@ -89,18 +91,21 @@ sem_flags_beside p c object short away sems flags none =
     (λ id in_it. away (63 + id) (sems id in_it.0 (let low = in_it.1 in omega (arith, low, few))))
     (λ id in_it. away (127 + id) (flags id in_it.0 (let low = in_it.1 in omega (arith, low, few_flags)))) none.sem_flags
 
+-- nor do mutexes
 pub mutexes_beside : (p : Parts) (c : Base) (object : ℕ) → AreShort p.objects → AwayFrom p.base c object → IsApart 255 object → NoneOf p →
     serve_mutexes c p.objects.mutexes ≡ None
 mutexes_beside p c object short away apart none =
     let few = short.mutexes in
     mutexes_still p.base c p.objects.mutexes (λ id in_it. away (255 + id) (apart id in_it.0 (let low = in_it.1 in omega (arith, low, few)))) none.mutexes
 
+-- nor do mailboxes
 pub boxes_beside : (p : Parts) (q : MailParts) (object : ℕ) → q.table.boxes ≡ p.objects.mails.boxes → AreShort p.objects → AwayFrom p.base q.base object → IsApart 191 object →
     NoneOf p → serve_mailboxes q ≡ None
 boxes_beside p q object same short away apart none =
     let few = short.boxes in
     boxes_still (mail_parts p) q same (λ id in_it. away (191 + id) (apart id in_it.0 (let low = in_it.1 in omega (arith, low, few)))) none.boxes
 
+-- nor do message buffers
 pub buffers_beside : (p : Parts) (q : MailParts) (object : ℕ) → q.table.buffers ≡ p.objects.mails.buffers → q.table.sending ≡ p.objects.mails.sending → AreShort p.objects →
     AwayFrom p.base q.base object →
     IsApart 319 object → IsApart 383 object → NoneOf p → serve_buffers q ≡ None
@@ -110,12 +115,14 @@ buffers_beside p q object same sending short away sends receives none =
     (λ id in_it. away (319 + id) (sends id in_it.0 (let low = in_it.1 in omega (arith, low, few))))
     (λ id in_it. away (383 + id) (receives id in_it.0 (let low = in_it.1 in omega (arith, low, few)))) none.buffers
 
+-- nor do fixed pools
 pub fixed_beside : (p : Parts) (q : PoolParts) (object : ℕ) → q.table.fixed ≡ p.objects.pools.fixed → AreShort p.objects → AwayFrom p.base q.base object → IsApart 447 object →
     NoneOf p → serve_fixed_pools q ≡ None
 fixed_beside p q object same short away apart none =
     let few = short.fixed in
     fixed_pools_still (pool_parts p) q same (λ id in_it. away (447 + id) (apart id in_it.0 (let low = in_it.1 in omega (arith, low, few)))) none.fixed
 
+-- nor do variable pools
 pub variable_beside : (p : Parts) (q : PoolParts) (object : ℕ) → q.table.variable ≡ p.objects.pools.variable → q.table.sizes ≡ p.objects.pools.sizes → AreShort p.objects →
     AwayFrom p.base q.base object →
     IsApart 511 object → NoneOf p → serve_variable_pools q ≡ None
@@ -127,6 +134,7 @@ variable_beside p q object same sizes short away apart none =
 abbrev pub DevicesNone : DevParts → Type 0
 DevicesNone q = (serve_acceptances q ≡ None) × ((serve_endings q ≡ None) × ((serve_closes q ≡ None) × (serve_suspension q ≡ None)))
 
+-- nor do these
 pub devices_beside : (p : Parts) (c : Base) (mails : Mails) (object : ℕ) → AwayFrom p.base c object → object ≤ 575 → NoneOf p →
     DevicesNone (record (dev_parts p) { base = c; mails = mails })
 devices_beside p c mails object away low none =

@@ -135,6 +135,7 @@ pub mutex_still : (b c : Base) (m : Mutexes) (id : ℕ) → SameQueue b c (mutex
 unfolding serve_mutex
 mutex_still b c m id queues is = mutex_in b c m id (mutex_at m id) queues is
 
+-- so do all mutexes
 pub mutexes_still : (b c : Base) (m : Mutexes) → ((id : ℕ) → IsIn m.table id → SameQueue b c (mutex_object id)) → serve_mutexes b m ≡ None → serve_mutexes c m ≡ None
 unfolding serve_mutexes
 mutexes_still b c m queues is = none_still (serve_mutex b m) (serve_mutex c m) m.table m.table refl refl (λ id in_it none. mutex_still b c m id (queues id in_it) none) is
@@ -156,6 +157,7 @@ pub box_still : (p q : MailParts) (id : ℕ) → box_at q.table id ≡ box_at p.
 unfolding serve_box
 box_still p q id same queues is = ap (serve_box_at q id) same ∙ box_in p q id (box_at p.table id) queues is
 
+-- so do all mailboxes
 pub boxes_still : (p q : MailParts) → q.table.boxes ≡ p.table.boxes → ((id : ℕ) → IsIn p.table.boxes id → SameQueue p.base q.base (box_object id)) → serve_mailboxes p ≡ None →
     serve_mailboxes q ≡ None
 unfolding serve_mailboxes
@@ -196,6 +198,7 @@ pub buffer_still : (p q : MailParts) (id : ℕ) → buffer_at q.table id ≡ buf
 unfolding serve_buffer
 buffer_still p q id same sending sends receives is = ap (serve_buffer_at q id) same ∙ buffer_in p q id (buffer_at p.table id) sending sends receives is
 
+-- so do all message buffers
 pub buffers_still : (p q : MailParts) → q.table.buffers ≡ p.table.buffers → q.table.sending ≡ p.table.sending →
     ((id : ℕ) → IsIn p.table.buffers id → SameQueue p.base q.base (senders_object id)) →
     ((id : ℕ) → IsIn p.table.buffers id → SameQueue p.base q.base (receivers_object id)) → serve_buffers p ≡ None → serve_buffers q ≡ None
@@ -221,6 +224,7 @@ pub fixed_still : (p q : PoolParts) (id : ℕ) → fixed_at q.table id ≡ fixed
 unfolding serve_fixed
 fixed_still p q id same queues is = ap (serve_fixed_at q id) same ∙ fixed_in p q id (fixed_at p.table id) queues is
 
+-- so do all fixed pools
 pub fixed_pools_still : (p q : PoolParts) → q.table.fixed ≡ p.table.fixed → ((id : ℕ) → IsIn p.table.fixed id → SameQueue p.base q.base (fixed_object id)) →
     serve_fixed_pools p ≡ None → serve_fixed_pools q ≡ None
 unfolding serve_fixed_pools
@@ -249,6 +253,7 @@ pub variable_still : (p q : PoolParts) (id : ℕ) → variable_at q.table id ≡
 unfolding serve_variable
 variable_still p q id same sizes queues is = ap (serve_variable_at q id) same ∙ variable_in p q id (variable_at p.table id) sizes queues is
 
+-- so do all variable pools
 pub variable_pools_still : (p q : PoolParts) → q.table.variable ≡ p.table.variable → q.table.sizes ≡ p.table.sizes →
     ((id : ℕ) → IsIn p.table.variable id → SameQueue p.base q.base (variable_object id)) → serve_variable_pools p ≡ None → serve_variable_pools q ≡ None
 unfolding serve_variable_pools
@@ -266,6 +271,7 @@ acceptance_none : (p : DevParts) (c : Base) (mails : Mails) (d : ℕ) (waiters :
 acceptance_none p c mails d [] is = refl
 acceptance_none p c mails d (t ∷ ts) is = place_none p (devices_to p c mails) (has_place p.table d) d t refl is
 
+-- devices accept no request still
 pub acceptances_still : (p : DevParts) (c : Base) (mails : Mails) → ((d : ℕ) → 1 ≤ d → SameQueue p.base c (acceptance_object d)) → serve_acceptances p ≡ None →
     serve_acceptances (devices_to p c mails) ≡ None
 unfolding serve_acceptances serve_acceptance
@@ -277,6 +283,7 @@ ending_by : (p : DevParts) (c : Base) (mails : Mails) (dd : ℕ) (found : Option
 ending_by p c mails dd None is = refl
 ending_by p c mails dd (Some t) is = claimed_none p (devices_to p c mails) t (picked p.table dd (wish_of p.table t)) is
 
+-- no wait ends with an ending still
 pub endings_still : (p : DevParts) (c : Base) (mails : Mails) → ((dd : ℕ) → 1 ≤ dd → SameQueue p.base c (ending_object dd)) → serve_endings p ≡ None →
     serve_endings (devices_to p c mails) ≡ None
 unfolding serve_endings serve_ending
@@ -292,6 +299,7 @@ close_none : (p : DevParts) (c : Base) (mails : Mails) (dd : ℕ) (waiters : Lis
 close_none p c mails dd [] is = refl
 close_none p c mails dd (t ∷ ts) is = closed_by (is_with_driver p.table dd) p c mails dd t is
 
+-- no close ends still
 pub closes_still : (p : DevParts) (c : Base) (mails : Mails) → ((dd : ℕ) → 1 ≤ dd → SameQueue p.base c (close_object dd)) → serve_closes p ≡ None →
     serve_closes (devices_to p c mails) ≡ None
 unfolding serve_closes serve_close
@@ -307,6 +315,7 @@ suspension_none : (p : DevParts) (c : Base) (mails : Mails) (waiters : List ℕ)
 suspension_none p c mails [] is = refl
 suspension_none p c mails (t ∷ ts) is = suspended_by (any_given p.table) p c mails t is
 
+-- nor does a suspension
 pub suspension_still : (p : DevParts) (c : Base) (mails : Mails) → SameQueue p.base c suspension_object → serve_suspension p ≡ None →
     serve_suspension (devices_to p c mails) ≡ None
 unfolding serve_suspension
