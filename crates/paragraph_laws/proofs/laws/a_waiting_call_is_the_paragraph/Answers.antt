@@ -1,0 +1,24 @@
+use Rattle.paragraph_laws.proofs.Boxes.{box_call_is_paragraph}
+use Rattle.paragraph_laws.proofs.Pools.{fixed_call_is_paragraph}
+use Rattle.paragraph_laws.proofs.SemFlags.{flag_call_is_paragraph, sem_call_is_paragraph}
+use Rattle.paragraph_laws.proofs.Settled.{rest_settled}
+use Rattle.paragraph_laws.proofs.VariablePools.{variable_call_is_paragraph}
+use Rattle.paragraph_laws.proofs.laws.a_waiting_call_is_the_paragraph.Goals as goal
+
+pub returns-clause-rest : goal.returns-clause-rest
+returns-clause-rest c = rest_settled
+
+pub returns-clause-semaphore : goal.returns-clause-semaphore
+returns-clause-semaphore c = sem_call_is_paragraph
+
+pub returns-clause-flag : goal.returns-clause-flag
+returns-clause-flag c = flag_call_is_paragraph
+
+pub returns-clause-mailbox : goal.returns-clause-mailbox
+returns-clause-mailbox c = box_call_is_paragraph
+
+pub returns-clause-fixed : goal.returns-clause-fixed
+returns-clause-fixed c = fixed_call_is_paragraph
+
+pub returns-clause-variable : goal.returns-clause-variable
+returns-clause-variable c = variable_call_is_paragraph
