@@ -16,7 +16,6 @@ use Rattle.kernel_model.specs.SemFlags.Trial.{back_in}
 use Rattle.kernel_model.specs.Tasks.Base.{make_wait}
 use Rattle.kernel_model.specs.Words.Checks.{failed}
 use Rattle.object_model.specs.Mails.Calls.{MailDone}
-use Rattle.object_model.specs.Mutexes.Calls.{MutexDone}
 use Rattle.object_model.specs.Pools.Calls.{PoolDone}
 use Rattle.mail_laws.specs.Trial.{ended_in}
 use Rattle.machine_model.specs.Events.Rest.{AreUpToDate}
@@ -67,9 +66,6 @@ paragraph mode p t object order timeout asked = after_settling p t timeout (sett
 
 abbrev pub sem_flag_waits : Parts → SemFlagDone → WaitDone
 sem_flag_waits p done = record { parts = record p { base = done.base; objects = record p.objects { sem_flags = done.table } }; outcome = done.outcome }
-
-abbrev pub mutex_waits : Parts → MutexDone → WaitDone
-mutex_waits p done = record { parts = record p { base = done.base; objects = record p.objects { mutexes = done.table } }; outcome = done.outcome }
 
 abbrev pub mail_waits : Parts → MailDone → WaitDone
 mail_waits p done = record { parts = record { base = done.base; objects = record p.objects { mails = done.table }; memory = done.memory }; outcome = done.outcome }
