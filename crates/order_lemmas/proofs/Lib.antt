@@ -6,3 +6,6 @@ pub mod MutexOrders
 pub mod SemFlagOrders
 pub mod PoolOrders
 pub mod MailOrders
+pub mod DeviceOrders
+pub mod TimeContexts
+pub mod Moves
