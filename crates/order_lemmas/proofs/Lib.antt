@@ -9,3 +9,4 @@ pub mod MailOrders
 pub mod DeviceOrders
 pub mod TimeContexts
 pub mod Moves
+pub mod ReachedOrders
