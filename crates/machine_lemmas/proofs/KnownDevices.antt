@@ -6,7 +6,7 @@ use Rattle.device_model.specs.declared.rows.Opened.{Opened}
 use Rattle.device_model.specs.declared.rows.Transfer.{Transfer}
 use Rattle.device_model.specs.declared.rows.Wish.{Wish}
 use Rattle.device_model.specs.declared.rows.Wish.TheVariants as wish
-use Rattle.device_model.specs.Devices.Tables.{Devices, Given, Link, Row, accepted, accepted_in, asked, asked_given, asked_link, dropped, dropped_in, first_queued, handed, handed_first, handed_given, handed_link, handed_row, is_at_driver, link_asked, link_at, opened_at, row_at, wish_of, with_open, with_wish}
+use Rattle.device_model.specs.Devices.Tables.{Devices, Given, Link, Row, accepted, accepted_in, asked, asked_given, asked_link, dropped, dropped_in, first_queued, handed, handed_first, handed_given, handed_link, handed_row, is_at_driver, link_at, opened_at, row_at, wish_of, with_open, with_wish}
 use Rattle.kernel_model.specs.Words.Orders.{entry}
 use Rattle.kernel_lemmas.proofs.Tables.{entry_each, entry_same}
 

@@ -1,6 +1,6 @@
 -- Every call on devices leaves the tasks that wait in the order of what they wait for, and knows what is opened and wished for:
 -- the number of each object that a task waits for is one of those for devices.
-use Rattle.std.proofs.Common.{◌≡◌, ℕ, suc, zero, ◌+◌, ◌-◌, ◌≤◌, ◌<◌, length, Bool, true, false, not, ◌&&◌, cond, List, [], ◌∷◌, Option, Some, None, refl, ◌∙◌, ap, sym, subst, arith, ℤ, pos, negsuc}
+use Rattle.std.proofs.Common.{◌≡◌, ℕ, suc, zero, ◌+◌, ◌-◌, ◌≤◌, ◌<◌, length, Bool, true, false, not, cond, List, [], ◌∷◌, Option, Some, None, refl, ap, sym, subst, arith, ℤ, pos, negsuc}
 use Rattle.std.specs.Bool.{◌==◌}
 use Rattle.std.specs.Prelude.{drop, filter, fold, nat_lt}
 use Rattle.std.specs.Option.{is_some}
@@ -29,7 +29,7 @@ use Rattle.device_model.specs.declared.rows.Transfer.{Transfer}
 use Rattle.device_model.specs.declared.rows.Wish.{Wish}
 use Rattle.device_model.specs.declared.rows.Wish.TheVariants as wish
 use Rattle.device_model.specs.Devices.Orders.{device_order}
-use Rattle.device_model.specs.Devices.Tables.{Devices, Link, asked, dropped, free_request, link_at, opened_at, row_at, with_off, with_open, with_wish}
+use Rattle.device_model.specs.Devices.Tables.{Devices, Link, asked, dropped, free_request, link_at, opened_at, row_at, with_open, with_wish}
 use Rattle.device_model.specs.Devices.Handing.{any_given, suspension_object}
 use Rattle.device_model.specs.Devices.Endings.{DevParts, close_object}
 use Rattle.device_model.specs.Devices.Requests as requests

@@ -10,7 +10,7 @@ use Rattle.tk_types.specs.declared.error_code.Er.{Er}
 use Rattle.tk_types.specs.declared.task.Order.{Order}
 use Rattle.tk_types.specs.declared.task.Order.TheVariants.{Fifo}
 use Rattle.kernel_model.specs.Words.Checks.{Check, first_error, natural, plain}
-use Rattle.kernel_model.specs.Tasks.Base.{Base, make_wait, release, take_bytes}
+use Rattle.kernel_model.specs.Tasks.Base.{Base, make_wait, take_bytes}
 use Rattle.kernel_model.specs.Tasks.Calls.{caller}
 use Rattle.kernel_model.specs.Tasks.Waits.{HavePlaces}
 use Rattle.kernel_model.specs.SemFlags.Calls.{end_waits, object_checks, would_be_first}

@@ -7,12 +7,11 @@ use Rattle.device_model.specs.declared.rows.Opened.{Opened}
 use Rattle.device_model.specs.Units.Function.{Served}
 use Rattle.kernel_model.specs.Tasks.Base.{Base, fifo_queue}
 use Rattle.kernel_model.specs.Words.Orders.{entry}
-use Rattle.device_model.specs.Devices.Tables.{Devices, Given, Link, Row, accepted, asked, asked_given, asked_link, device_ids, dropped, first_queued, handed, handed_first, handed_given, handed_link, handed_row, is_at_driver, link_asked, link_at, opened_at, row_at}
+use Rattle.device_model.specs.Devices.Tables.{Devices, Given, Link, Row, accepted, asked, asked_given, asked_link, device_ids, dropped, first_queued, handed, handed_first, handed_given, handed_link, handed_row, is_at_driver, link_asked, link_at, row_at}
 use Rattle.device_model.specs.Devices.Handing.{hand_first, hand_over, handed_one, handed_unless, suspension_object}
 use Rattle.device_model.specs.Devices.Endings as endings
 use Rattle.device_model.specs.Devices.Endings.{DevParts, arrive, close_object}
 use Rattle.device_model.specs.Devices.MoveProofs.{IsArrivalProof, IsMoveProof}
-use Rattle.kernel_lemmas.proofs.Tables.{entry_each, entry_same}
 use Rattle.device_lemmas.proofs.Walk.{Kept}
 use Rattle.machine_lemmas.proofs.DeviceServings.{accepted_links, dropped_links}
 use Rattle.machine_lemmas.proofs.KnownDevices.{AreKnown, beside_known, dropped_beside, handed_beside, open_known}

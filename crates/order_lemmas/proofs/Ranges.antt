@@ -1,5 +1,5 @@
 -- How the waiters of an object queue by the range of its number, and what writing one slot of a table leaves of that.
-use Rattle.std.proofs.Common.{◌≡◌, ℕ, suc, zero, ◌+◌, ◌-◌, ◌≤◌, Bool, true, false, ◌&&◌, cond, List, [], ◌∷◌, Option, Some, None, drop, refl, ◌∙◌, ap, sym, subst, arith, ℤ, pos, negsuc, ◌⊎◌, inl, inr}
+use Rattle.std.proofs.Common.{◌≡◌, ℕ, suc, zero, ◌+◌, ◌-◌, ◌≤◌, Bool, true, false, ◌&&◌, cond, List, [], ◌∷◌, Option, Some, None, drop, refl, ◌∙◌, ap, arith, ℤ, pos, negsuc, ◌⊎◌, inl, inr}
 use Rattle.std.specs.Prelude.{int_le, nat_le, nat_lt, slice_set}
 use Rattle.std.specs.Option.{option_map}
 use Rattle.std.proofs.lemmas.Bool.Decides.{nat_tests}

@@ -1,6 +1,6 @@
 -- In every state that a machine comes to each task that waits stands in the queue of an object that there is, in its order.
-use Rattle.std.proofs.Common.{◌≡◌, ℕ, suc, zero, ◌≤◌, true, false, List, [], ◌∷◌, Option, Some, None, refl, ap, sym, subst}
-use Rattle.std.specs.Prelude.{replicate, slice_set}
+use Rattle.std.proofs.Common.{◌≡◌, ℕ, suc, zero, false, List, Option, Some, None, refl, ap, sym, subst}
+use Rattle.std.specs.Prelude.{replicate}
 use Rattle.std.specs.List.{slice_index_or}
 use Rattle.tk_types.specs.declared.run.Mode.{Mode}
 use Rattle.tk_types.specs.declared.run.Mode.TheVariants as modes

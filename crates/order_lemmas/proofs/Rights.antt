@@ -15,7 +15,7 @@ use Rattle.tk_types.specs.Codes.{code_of}
 use Rattle.kernel_model.specs.LawWords.Once.{times}
 use Rattle.kernel_model.specs.Words.Checks.{plain}
 use Rattle.kernel_model.specs.Words.Orders.{entry, to_back, without}
-use Rattle.kernel_model.specs.Tasks.Base.{Base, back_unless_suspended, create, current, delete, drop_wait, gone, is_waiting_phase, limited, make_dormant, make_ready, make_wait, move_wait, queue, recorded, release, resume, resumed, set_base, set_current, set_wakeups, suspend, task_at, waiting_in, waits_for, waits_in, waits_somewhere, with_task}
+use Rattle.kernel_model.specs.Tasks.Base.{Base, back_unless_suspended, create, delete, drop_wait, gone, is_waiting_phase, limited, make_dormant, make_ready, make_wait, move_wait, queue, recorded, release, resume, resumed, set_base, set_current, set_wakeups, suspend, task_at, waiting_in, waits_for, waits_in, waits_somewhere, with_task}
 use Rattle.kernel_model.specs.Tasks.Waits.{FitsPhase, FitsRow, HavePlaces}
 use Rattle.kernel_model.specs.SemFlags.Calls.{end_first, end_waits, first_ended}
 use Rattle.kernel_lemmas.proofs.Queues.{queue_release}

@@ -1,6 +1,6 @@
 -- Every call on tasks leaves the tasks that wait in the order of what they wait for: a call makes the caller wait in the queue
 -- of those that sleep or of those in a delay, and those are by the beginning of the waits.
-use Rattle.std.proofs.Common.{◌≡◌, ℕ, suc, zero, ◌+◌, ◌-◌, Bool, true, false, cond, List, [], ◌∷◌, Option, Some, None, refl, ℤ, pos, negsuc}
+use Rattle.std.proofs.Common.{◌≡◌, ℕ, suc, zero, ◌+◌, Bool, true, false, cond, List, [], ◌∷◌, Some, refl, ℤ, pos, negsuc}
 use Rattle.std.specs.Bool.{◌==◌}
 use Rattle.std.specs.Ordering.{int_eq}
 use Rattle.tk_types.specs.declared.answer.Outcome.TheVariants as outcomes
@@ -13,7 +13,7 @@ use Rattle.tk_types.specs.Codes.{code_of}
 use Rattle.kernel_model.specs.Words.Checks.{Check, ◌otherwise◌, done, failed, natural, plain, within}
 use Rattle.kernel_model.specs.Words.Orders.{to_back}
 use Rattle.kernel_model.specs.Tasks.Base.{Base, create, current, delete, free_task, has_room, make_dormant, make_ready, make_wait, release, resume, rotate, set_base, set_wakeups, suspend, take_bytes, waits_for, wakeups_of}
-use Rattle.kernel_model.specs.Tasks.Calls.{TaskDone, cancel_checks, cancel_wakeups, caller, change_checks, change_priority, checked, create_checks, create_task, delay, delay_object, delayed, delete_checks, delete_task, enabled_after, exit_task, finished, get_task, named, named_checks, new_base, rebased, refer_task, release_checks, release_wait, resume_checks, resume_task, rotate_ready, rotated_priority, shown, sleep, sleep_object, slept, start_checks, start_task, suspend_checks, suspend_task, task_call, terminate_checks, terminate_task, waiting_checks, wake_up, wake_up_checks, woken}
+use Rattle.kernel_model.specs.Tasks.Calls.{TaskDone, cancel_checks, cancel_wakeups, caller, change_checks, change_priority, checked, create_checks, create_task, delay, delay_object, delayed, delete_checks, delete_task, enabled_after, exit_task, finished, get_task, named, named_checks, new_base, rebased, refer_task, release_checks, release_wait, resume_checks, resume_task, rotate_ready, rotated_priority, sleep, sleep_object, slept, start_checks, start_task, suspend_checks, suspend_task, task_call, terminate_checks, terminate_task, waiting_checks, wake_up, wake_up_checks, woken}
 use Rattle.kernel_model.specs.Tasks.Views.{is_current}
 use Rattle.object_model.specs.Mutexes.Tables.{Mutexes}
 use Rattle.object_model.specs.Mutexes.Calls.{change_checks_beside, change_priority_beside, task_call_beside}

@@ -1,6 +1,6 @@
 -- Calls on time, cyclic and alarm handlers, interrupts, what delays dispatching, and subsystems touch no task, and so leave the
 -- tasks that wait in the order of what they wait for; so does a cyclic handler that falls due.
-use Rattle.std.proofs.Common.{ℕ, ◌+◌, Bool, true, false, cond, List, [], ◌∷◌, Option, Some, None, ℤ, pos}
+use Rattle.std.proofs.Common.{ℕ, ◌+◌, Bool, true, false, cond, List, [], ◌∷◌, Option, Some, None, pos}
 use Rattle.std.specs.Prelude.{int_le}
 use Rattle.tk_types.specs.declared.answer.Who.{Who}
 use Rattle.tk_types.specs.declared.calls.ContextCall.{ContextCall}

@@ -1,7 +1,7 @@
 -- What writing one slot of a family's table leaves of the orders of all queues: all, where the slot keeps its order, or where
 -- nobody waits for its object, as there was none, or as all waits for it have ended.
-use Rattle.std.proofs.Common.{◌≡◌, ℕ, ◌+◌, ◌-◌, ◌≤◌, true, List, cond, Option, Some, None, drop, refl, ◌∙◌, ap, sym, subst, arith, ◌⊎◌}
-use Rattle.std.specs.Prelude.{nat_le, nat_lt, ◌&&◌, slice_set}
+use Rattle.std.proofs.Common.{◌≡◌, ℕ, ◌-◌, ◌≤◌, true, List, cond, Option, Some, None, drop, refl, ◌∙◌, ap, sym, subst, arith}
+use Rattle.std.specs.Prelude.{nat_lt, slice_set}
 use Rattle.std.specs.Option.{option_map}
 use Rattle.tk_types.specs.declared.task.Order.{Order}
 use Rattle.tk_types.specs.declared.task.Order.TheVariants.{Fifo}
@@ -9,10 +9,10 @@ use Rattle.kernel_model.specs.declared.objects.Semaphore.{Semaphore}
 use Rattle.kernel_model.specs.declared.objects.EventFlag.{EventFlag}
 use Rattle.kernel_model.specs.Words.Orders.{entry, free_from}
 use Rattle.kernel_model.specs.Tasks.Base.{Base}
-use Rattle.kernel_model.specs.SemFlags.Tables.{SemFlags, flag_at, flag_object, sem_at, sem_object, with_flag, with_sem}
+use Rattle.kernel_model.specs.SemFlags.Tables.{flag_at, flag_object, sem_at, sem_object, with_flag, with_sem}
 use Rattle.kernel_model.specs.SemFlags.Orders.{sem_flag_order}
 use Rattle.object_model.specs.declared.mutexes.Mutex.{Mutex}
-use Rattle.object_model.specs.Mutexes.Tables.{mutex_at, mutex_object, with_mutex}
+use Rattle.object_model.specs.Mutexes.Tables.{mutex_object, with_mutex}
 use Rattle.object_model.specs.Mutexes.Orders.{mutex_order}
 use Rattle.object_model.specs.Mails.Tables.{Mailbox, MessageBuffer, box_at, box_object, buffer_at, receivers_object, senders_object, with_box, with_buffer}
 use Rattle.object_model.specs.Mails.Orders.{mail_order}
