@@ -44,6 +44,7 @@ pub record IsBeside (dv now : Devices) : Type 0 where
   pub opened : now.opened ≡ dv.opened
   pub wishes : now.wishes ≡ dv.wishes
 
+-- so that what is known of it stays known
 pub beside_known : (dv now : Devices) → IsBeside dv now → AreKnown dv → AreKnown now
 beside_known dv now is known = record {
   opened = subst (λ (slots : List (Option Opened)). (dd : ℕ) → OpenFits (entry slots dd)) (sym is.opened) known.opened;
@@ -72,6 +73,7 @@ accepted_cases : (dv : Devices) (id : ℕ) (row : Row) (slot : Option Row) → I
 accepted_cases dv id row None = record { opened = refl; wishes = refl }
 accepted_cases dv id row (Some other) = record { opened = refl; wishes = refl }
 
+-- the acceptance of a request leaves it
 pub accepted_beside : (dv : Devices) (id : ℕ) (row : Row) → IsBeside dv (accepted dv id row)
 unfolding accepted
 accepted_beside dv id row = accepted_cases dv id row (row_at dv id)
@@ -84,6 +86,7 @@ dropped_cases : (dv : Devices) (id : ℕ) (slot : Option Row) → IsBeside dv (d
 dropped_cases dv id None = record { opened = refl; wishes = refl }
 dropped_cases dv id (Some row) = dropped_if dv _ (is_at_driver row.life) (record { opened = refl; wishes = refl })
 
+-- so does a request that is let go
 pub dropped_beside : (dv : Devices) (id : ℕ) → IsBeside dv (dropped dv id)
 unfolding dropped
 dropped_beside dv id = dropped_cases dv id (row_at dv id)
@@ -104,6 +107,7 @@ handed_links : (dv : Devices) (d : ℕ) (slot : Option Link) → IsBeside dv (ha
 handed_links dv d None = record { opened = refl; wishes = refl }
 handed_links dv d (Some link) = handed_gives dv d link link.given
 
+-- one that goes to its driver
 pub handed_beside : (dv : Devices) (d : ℕ) → IsBeside dv (handed dv d)
 unfolding handed
 handed_beside dv d = handed_links dv d (link_at dv d)
@@ -116,6 +120,7 @@ asked_links : (dv : Devices) (d : ℕ) (slot : Option Link) → IsBeside dv (ask
 asked_links dv d None = record { opened = refl; wishes = refl }
 asked_links dv d (Some link) = asked_gives dv d link link.given
 
+-- and one whose abort is asked
 pub asked_beside : (dv : Devices) (d : ℕ) → IsBeside dv (asked dv d)
 unfolding asked
 asked_beside dv d = asked_links dv d (link_at dv d)

@@ -57,20 +57,25 @@ pub record DevRight (o : Objects) (p : DevParts) : Type 0 where
 pub right_survives : (o : Objects) (may : ℕ → Type 0) → ((dd : ℕ) → may dd → dd ≤ 32) → Survives may (AreRight (order_for o))
 right_survives o may few = record {
   released = λ b t object answer above waits all. release_fits (order_for o) b t answer all;
-  moved = λ b t d dd least most moves waits all. let last : dd ≤ 32 = few dd moves in move_fits (order_for o) b t (ending_object dd) Fifo (device_is o (ending_object dd) (omega arith) (omega (arith, last))) all;
+  moved = λ b t d dd least most moves waits all. let last : dd ≤ 32 = few dd moves in move_fits (order_for o) b t (ending_object dd) Fifo
+      (device_is o (ending_object dd) (omega arith) (omega (arith, last))) all;
   given = λ b n all. all;
 }
 
 -- the orders of all objects stay where those of mailboxes and message buffers do
-pub mails_same : (o : Objects) (m now : Mails) (object : ℕ) → mail_order now object ≡ mail_order m object → order_for (record o { mails = now }) object ≡ order_for (record o { mails = m }) object
+pub mails_same : (o : Objects) (m now : Mails) (object : ℕ) → mail_order now object ≡ mail_order m object →
+    order_for (record o { mails = now }) object ≡ order_for (record o { mails = m }) object
 mails_same o m now object same =
-    ap (λ (x : Option Order). cond (nat_lt object 2) (Some Fifo) (or_order (sem_flag_order o.sem_flags object) (or_order (mutex_order o.mutexes object) (or_order x (or_order (pool_order o.pools object) (device_order object)))))) same
+    ap (λ (x : Option Order). cond (nat_lt object 2) (Some Fifo) (or_order (sem_flag_order o.sem_flags object)
+        (or_order (mutex_order o.mutexes object) (or_order x (or_order (pool_order o.pools object) (device_order object)))))) same
 
-refused_fits : (o : Objects) (error : Option Er) (p : DevParts) (effect : DevDone) → DevRight o p → (error ≡ None → DevRight o effect.parts) → DevRight o (calls.refused_with error p effect).parts
+refused_fits : (o : Objects) (error : Option Er) (p : DevParts) (effect : DevDone) → DevRight o p → (error ≡ None → DevRight o effect.parts) →
+    DevRight o (calls.refused_with error p effect).parts
 refused_fits o (Some error) p effect has works = has
 refused_fits o None p effect has works = works refl
 
-checked_fits : (o : Objects) (checks : List Check) (p : DevParts) (effect : DevDone) → DevRight o p → (first_error checks ≡ None → DevRight o effect.parts) → DevRight o (calls.device_checked checks p effect).parts
+checked_fits : (o : Objects) (checks : List Check) (p : DevParts) (effect : DevDone) → DevRight o p → (first_error checks ≡ None → DevRight o effect.parts) →
+    DevRight o (calls.device_checked checks p effect).parts
 checked_fits o checks p effect has works = refused_fits o (first_error checks) p effect has works
 
 either_fits : (o : Objects) (test : Bool) (one other : DevDone) → DevRight o one.parts → DevRight o other.parts → DevRight o (cond {A = DevDone} test one other).parts
@@ -79,20 +84,23 @@ either_fits o false one other first second = second
 
 -- ---- waits
 
-waits_fit : (o : Objects) (p : DevParts) (t object : ℕ) (timeout : ℤ) (dv : Devices) → 576 ≤ object → object ≤ 648 → AreKnown dv → DevRight o p → DevRight o (calls.waits p t object timeout dv).parts
+waits_fit : (o : Objects) (p : DevParts) (t object : ℕ) (timeout : ℤ) (dv : Devices) → 576 ≤ object → object ≤ 648 → AreKnown dv → DevRight o p →
+    DevRight o (calls.waits p t object timeout dv).parts
 waits_fit o p t object timeout dv least most known has = record {
   orders = wait_fits (order_for (record o { mails = p.mails })) p.base t object Fifo timeout (device_is (record o { mails = p.mails }) object least most) has.orders;
   known = known;
 }
 
-waits_or_ends_fit : (o : Objects) (p : DevParts) (t object : ℕ) (timeout : ℤ) (dv : Devices) → 576 ≤ object → object ≤ 648 → AreKnown dv → DevRight o p → DevRight o (calls.waits_or_ends p t object timeout dv).parts
+waits_or_ends_fit : (o : Objects) (p : DevParts) (t object : ℕ) (timeout : ℤ) (dv : Devices) → 576 ≤ object → object ≤ 648 → AreKnown dv → DevRight o p →
+    DevRight o (calls.waits_or_ends p t object timeout dv).parts
 waits_or_ends_fit o p t object timeout dv least most known has = either_fits o (int_eq timeout (pos 0)) _ _ has (waits_fit o p t object timeout dv least most known has)
 
 -- ---- requests
 
 leaves_fit : (o : Objects) (p q : DevParts) → Leaves p q → DevRight o p → DevRight o q
 leaves_fit o p q leaves has = record {
-  orders = subst (λ (b : Base). AreRight (order_for (record o { mails = q.mails })) b) (sym leaves.base) (subst (λ (m : Mails). AreRight (order_for (record o { mails = m })) p.base) (sym leaves.mails) has.orders);
+  orders = subst (λ (b : Base). AreRight (order_for (record o { mails = q.mails })) b) (sym leaves.base)
+      (subst (λ (m : Mails). AreRight (order_for (record o { mails = m })) p.base) (sym leaves.mails) has.orders);
   known = beside_known p.table q.table leaves.beside has.known;
 }
 
@@ -106,13 +114,15 @@ device_fits : (slot : Option Opened) → OpenFits slot → calls.stays_open slot
 device_fits None fits on = absurd (cc on)
 device_fits (Some opened) fits on = fits
 
-requested_fits : (o : Objects) (p : DevParts) (t d : ℕ) (transfer : Transfer) (timeout : ℤ) → 1 ≤ d → d ≤ 8 → transfer.descriptor ≤ 32 → DevRight o p → DevRight o (calls.requested p t d transfer timeout).parts
+requested_fits : (o : Objects) (p : DevParts) (t d : ℕ) (transfer : Transfer) (timeout : ℤ) → 1 ≤ d → d ≤ 8 → transfer.descriptor ≤ 32 → DevRight o p →
+    DevRight o (calls.requested p t d transfer timeout).parts
 requested_fits o p t d transfer timeout least most fits has =
     either_fits o (requests.has_place p.table d) _ _ (accept_fits o p d (free_request p.table) transfer has)
     (waits_or_ends_fit o p t (acceptance_object d) timeout (with_wish p.table t (wish.Acceptance transfer false)) (omega (arith, least)) (omega (arith, most))
     (wish_known p.table t (wish.Acceptance transfer false) fits has.known) has)
 
-request_fits : (o : Objects) (p : DevParts) (who : Who) (write : Bool) (descriptor start address size timeout : ℤ) → DevRight o p → DevRight o (calls.request p who write descriptor start address size timeout).parts
+request_fits : (o : Objects) (p : DevParts) (who : Who) (write : Bool) (descriptor start address size timeout : ℤ) → DevRight o p →
+    DevRight o (calls.request p who write descriptor start address size timeout).parts
 unfolding calls.request
 request_fits o p who write descriptor start address size timeout has =
     let checks : List Check = calls.request_checks p who descriptor write start address size timeout [] in
@@ -126,21 +136,24 @@ stays_fit o p t d transfer least most fits has =
     waits_fit o p t (acceptance_object d) (negsuc 0) (with_wish p.table t (wish.Acceptance transfer true)) (omega (arith, least)) (omega (arith, most))
     (wish_known p.table t (wish.Acceptance transfer true) fits has.known) has
 
-stayed_fits : (o : Objects) (p : DevParts) (t d : ℕ) (transfer : Transfer) (start : Option ℕ) → 1 ≤ d → d ≤ 8 → transfer.descriptor ≤ 32 → DevRight o p → DevRight o (calls.stayed p t d transfer start).parts
+stayed_fits : (o : Objects) (p : DevParts) (t d : ℕ) (transfer : Transfer) (start : Option ℕ) → 1 ≤ d → d ≤ 8 → transfer.descriptor ≤ 32 → DevRight o p →
+    DevRight o (calls.stayed p t d transfer start).parts
 stayed_fits o p t d transfer (Some start) least most fits has = stays_fit o p t d transfer least most fits has
 stayed_fits o p t d transfer None least most fits has =
     let id : ℕ = free_request p.table in
     either_fits o (requests.has_place p.table d) (calls.claim (requests.accept p d id transfer) true id) (calls.stays p t d transfer)
     (claim_fits o (requests.accept p d id transfer) true id (accept_fits o p d id transfer has)) (stays_fit o p t d transfer least most fits has)
 
-whole_fits : (o : Objects) (p : DevParts) (who : Who) (write : Bool) (descriptor start address size : ℤ) → DevRight o p → DevRight o (calls.request_whole p who write descriptor start address size).parts
+whole_fits : (o : Objects) (p : DevParts) (who : Who) (write : Bool) (descriptor start address size : ℤ) → DevRight o p →
+    DevRight o (calls.request_whole p who write descriptor start address size).parts
 unfolding calls.request_whole
 whole_fits o p who write descriptor start address size has =
     let checks : List Check = calls.request_checks p who descriptor write start address size (negsuc 0) ((not (calls.any_waits p (natural descriptor)) otherwise er.Obj) ∷ []) in
     checked_fits o checks p _ has
     (λ none. let known = known_id 32 descriptor (holds_at 0 checks none) in
     let device = device_fits (opened_at p.table (natural descriptor)) (has.known.opened (natural descriptor)) (holds_at 5 checks none) in
-    stayed_fits o p (caller who) (calls.device_of p.table (natural descriptor)) (calls.transfer_of descriptor write start address size) (calls.start_of start) device.0 device.1 known.1 has)
+    stayed_fits o p (caller who) (calls.device_of p.table (natural descriptor)) (calls.transfer_of descriptor write start address size)
+        (calls.start_of start) device.0 device.1 known.1 has)
 
 -- ---- endings
 
@@ -148,7 +161,8 @@ wish_if : (any : Bool) (id serial : ℕ) → WishFits (cond any wish.AnyEnding (
 wish_if true id serial = tt
 wish_if false id serial = tt
 
-ending_fits : (o : Objects) (p : DevParts) (t dd : ℕ) (timeout : ℤ) (asked_for : Wish) (picked : Option ℕ) → dd ≤ 32 → WishFits asked_for → DevRight o p → DevRight o (calls.ending_waited p t dd timeout asked_for picked).parts
+ending_fits : (o : Objects) (p : DevParts) (t dd : ℕ) (timeout : ℤ) (asked_for : Wish) (picked : Option ℕ) → dd ≤ 32 → WishFits asked_for → DevRight o p →
+    DevRight o (calls.ending_waited p t dd timeout asked_for picked).parts
 ending_fits o p t dd timeout asked_for (Some id) most fits has = claim_fits o p false id has
 ending_fits o p t dd timeout asked_for None most fits has =
     waits_or_ends_fit o p t (ending_object dd) timeout (with_wish p.table t asked_for) (omega arith) (omega (arith, most)) (wish_known p.table t asked_for fits has.known) has
@@ -159,12 +173,14 @@ wait_ending_fits o p who descriptor id timeout has =
     let checks : List Check = calls.wait_checks p who descriptor id timeout in
     checked_fits o checks p _ has
     (λ none. let known = known_id 32 descriptor (holds_at 0 checks none) in
-    ending_fits o p (caller who) (natural descriptor) timeout (calls.ending_wish p.table (natural id)) (requests.picked p.table (natural descriptor) (calls.ending_wish p.table (natural id))) known.1
+    ending_fits o p (caller who) (natural descriptor) timeout (calls.ending_wish p.table (natural id))
+        (requests.picked p.table (natural descriptor) (calls.ending_wish p.table (natural id))) known.1
     (wish_if (natural id == 0) (natural id) (calls.serial_in (row_at p.table (natural id)))) has)
 
 -- ---- closing
 
-aborted_fits : (o : Objects) (m : Mails) (ids : List ℕ) (b : Base) → AreRight (order_for (record o { mails = m })) b → AreRight (order_for (record o { mails = m })) (fold calls.aborted b ids)
+aborted_fits : (o : Objects) (m : Mails) (ids : List ℕ) (b : Base) → AreRight (order_for (record o { mails = m })) b →
+    AreRight (order_for (record o { mails = m })) (fold calls.aborted b ids)
 aborted_fits o m [] b all = all
 aborted_fits o m (t ∷ ids) b all = aborted_fits o m ids (calls.aborted b t) (release_fits (order_for (record o { mails = m })) b t (plain (code_of er.Abort)) all)
 
@@ -186,7 +202,8 @@ begun_fits o true p t dd most has =
     let dv : Devices = with_open p.table dd (calls.now_closing (opened_at p.table dd)) in
     let d : ℕ = calls.device_of p.table dd in
     waits_fit o p t (close_object dd) (negsuc 0) (asked dv d) (omega arith) (omega (arith, most))
-    (beside_known dv (asked dv d) (asked_beside dv d) (open_known p.table dd (calls.now_closing (opened_at p.table dd)) (closing_fits (opened_at p.table dd) (has.known.opened dd)) has.known)) has
+    (beside_known dv (asked dv d) (asked_beside dv d) (open_known p.table dd (calls.now_closing (opened_at p.table dd))
+        (closing_fits (opened_at p.table dd) (has.known.opened dd)) has.known)) has
 
 close_fits : (o : Objects) (p : DevParts) (who : Who) (descriptor : ℤ) → DevRight o p → DevRight o (calls.close_device p who descriptor).parts
 unfolding calls.close_device
@@ -209,7 +226,8 @@ events_fit o p has =
     record {
       orders = right_same (order_for (record o { mails = p.mails })) (order_for (record o { mails = (events_sent p).mails })) (events_sent p).base
           (λ object. mails_same o p.mails (events_sent p).mails object (sending.orders object))
-          (sending.changes.keeps (AreRight (order_for (record o { mails = p.mails }))) (right_survives (record o { mails = p.mails }) no_moves (λ dd none. absurd none)) has.orders);
+          (sending.changes.keeps (AreRight (order_for (record o { mails = p.mails }))) (right_survives (record o { mails = p.mails }) no_moves
+              (λ dd none. absurd none)) has.orders);
       known = subst AreKnown (sym sending.table) has.known;
     }
 
@@ -223,7 +241,8 @@ counted_fits o p off has = record { orders = has.orders; known = record { opened
 effect_fits : (o : Objects) (p : DevParts) (t : ℕ) (mode : SuspendMode) → DevRight o p → DevRight o (calls.suspend_effect p t mode).parts
 effect_fits o p t mode has =
     either_fits o mode.td_suspend _ _ (suspended_fits o (any_given p.table) p t has)
-    (either_fits o mode.td_dissus _ _ (counted_fits o p (p.table.off + 1) has) (either_fits o mode.td_enasus _ _ (counted_fits o p (p.table.off - 1) has) (counted_fits o p p.table.off has)))
+    (either_fits o mode.td_dissus _ _ (counted_fits o p (p.table.off + 1) has) (either_fits o mode.td_enasus _ _ (counted_fits o p (p.table.off - 1) has)
+        (counted_fits o p p.table.off has)))
 
 suspend_fits : (o : Objects) (p : DevParts) (who : Who) (mode : SuspendMode) → DevRight o p → DevRight o (calls.suspend_devices p who mode).parts
 unfolding calls.suspend_devices
@@ -239,7 +258,8 @@ least_device : (dv : Devices) (d : ℕ) (link : Link) → link_at dv 0 ≡ None 
 least_device dv zero link first there = absurd (cc (first, there))
 least_device dv (suc d) link first there = omega arith
 
-open_fits : (o : Objects) (p : DevParts) (d : ℕ) (mode : OpenMode) → link_at p.table 0 ≡ None → length p.table.links ≤ 9 → DevRight o p → DevRight o (calls.open_device p d mode).parts
+open_fits : (o : Objects) (p : DevParts) (d : ℕ) (mode : OpenMode) → link_at p.table 0 ≡ None → length p.table.links ≤ 9 → DevRight o p →
+    DevRight o (calls.open_device p d mode).parts
 unfolding calls.open_device
 open_fits o p d mode first few has =
     let checks : List Check = calls.open_checks p.table d mode in
@@ -253,7 +273,8 @@ unfolding calls.refer_device
 refer_fits o p d has = checked_fits o ((is_some (link_at p.table d) otherwise er.NoExs) ∷ []) p _ has (λ none. has)
 
 -- every call on devices, of which there are at most eight, the first with ID 1
-pub device_calls_fit : (o : Objects) (p : DevParts) (who : Who) (c : DeviceCall) → link_at p.table 0 ≡ None → length p.table.links ≤ 9 → DevRight o p → DevRight o (calls.device_call p who c).parts
+pub device_calls_fit : (o : Objects) (p : DevParts) (who : Who) (c : DeviceCall) → link_at p.table 0 ≡ None → length p.table.links ≤ 9 → DevRight o p →
+    DevRight o (calls.device_call p who c).parts
 unfolding calls.device_call
 device_calls_fit o p who (call.OpnDev device mode) first few has = open_fits o p device mode first few has
 device_calls_fit o p who (call.ReaDev descriptor start address size timeout) first few has = request_fits o p who false descriptor start address size timeout has

@@ -39,11 +39,13 @@ DoneRight o done = MailRight o done.table done.base
 abbrev parts : Objects → Base → List ℕ → MailParts
 parts o b memory = record { base = b; table = o.mails; memory = memory }
 
-refused_fits : (o : Objects) (error : Option Er) (b : Base) (memory : List ℕ) (effect : MailDone) → MailRight o o.mails b → (error ≡ None → DoneRight o effect) → DoneRight o (refused_with error (parts o b memory) effect)
+refused_fits : (o : Objects) (error : Option Er) (b : Base) (memory : List ℕ) (effect : MailDone) → MailRight o o.mails b → (error ≡ None → DoneRight o effect) →
+    DoneRight o (refused_with error (parts o b memory) effect)
 refused_fits o (Some error) b memory effect all works = all
 refused_fits o None b memory effect all works = works refl
 
-checked_fits : (o : Objects) (checks : List Check) (b : Base) (memory : List ℕ) (effect : MailDone) → MailRight o o.mails b → (first_error checks ≡ None → DoneRight o effect) → DoneRight o (mail_checked checks (parts o b memory) effect)
+checked_fits : (o : Objects) (checks : List Check) (b : Base) (memory : List ℕ) (effect : MailDone) → MailRight o o.mails b → (first_error checks ≡ None → DoneRight o effect) →
+    DoneRight o (mail_checked checks (parts o b memory) effect)
 checked_fits o checks b memory effect all works = refused_fits o (first_error checks) b memory effect all works
 
 either_fits : (o : Objects) (test : Bool) (one other : MailDone) → DoneRight o one → DoneRight o other → DoneRight o (cond {A = MailDone} test one other)
@@ -54,7 +56,8 @@ either_fits o false one other first second = second
 asked_fits : (o : Objects) (b : Base) (sending : List (List ℕ)) (into : List ℕ) → AreRight (order_for o) b → MailRight o (record o.mails { sending = sending; into = into }) b
 asked_fits o b sending into all = right_same (order_for o) (order_for (record o { mails = record o.mails { sending = sending; into = into } })) b (λ object. refl) all
 
-wait_or_ends_fits : (o : Objects) (b : Base) (memory : List ℕ) (t object : ℕ) (order : Order) (timeout : ℤ) (sending : List (List ℕ)) (into : List ℕ) → order_for o object ≡ Some order → AreRight (order_for o) b →
+wait_or_ends_fits : (o : Objects) (b : Base) (memory : List ℕ) (t object : ℕ) (order : Order) (timeout : ℤ) (sending : List (List ℕ)) (into : List ℕ) →
+    order_for o object ≡ Some order → AreRight (order_for o) b →
     DoneRight o (waits_or_ends (parts o b memory) t object order timeout (record o.mails { sending = sending; into = into }))
 wait_or_ends_fits o b memory t object order timeout sending into there all =
     either_fits o (int_eq timeout (pos 0)) _ _ all
@@ -62,7 +65,8 @@ wait_or_ends_fits o b memory t object order timeout sending into there all =
 
 -- ---- mailboxes
 
-box_deleted : (o : Objects) (b : Base) (id : ℕ) (slot : Option Mailbox) → box_at o.mails id ≡ slot → HavePlaces b → AreRight (order_for o) b → MailRight o (with_box o.mails id None) (calls.box_emptied b id slot)
+box_deleted : (o : Objects) (b : Base) (id : ℕ) (slot : Option Mailbox) → box_at o.mails id ≡ slot → HavePlaces b → AreRight (order_for o) b →
+    MailRight o (with_box o.mails id None) (calls.box_emptied b id slot)
 box_deleted o b id None at has all = box_free o b id None (λ least. at) all
 box_deleted o b id (Some k) at has all =
     box_idle o (end_waits k.order (box_object id) b) id None (ended_idle k.order (box_object id) b has) (ended_fits (order_for o) k.order (box_object id) b all)
@@ -72,7 +76,8 @@ put_fits : (o : Objects) (b : Base) (memory : List ℕ) (id : ℕ) (message : Me
 put_fits o b memory id message None at all = all
 put_fits o b memory id message (Some k) at all = box_same o (take_bytes b message_bytes) id k _ at refl (taken_fits (order_for o) b message_bytes all)
 
-first_fits : (o : Objects) (b : Base) (memory : List ℕ) (t id : ℕ) (timeout : ℤ) (k : Mailbox) (messages : List Message) → box_at o.mails id ≡ Some k → 1 ≤ id → id ≤ 64 → AreRight (order_for o) b →
+first_fits : (o : Objects) (b : Base) (memory : List ℕ) (t id : ℕ) (timeout : ℤ) (k : Mailbox) (messages : List Message) → box_at o.mails id ≡ Some k → 1 ≤ id → id ≤ 64 →
+    AreRight (order_for o) b →
     DoneRight o (calls.taken_from_box (parts o b memory) t id timeout k messages)
 first_fits o b memory t id timeout k [] at least most all =
     wait_or_ends_fits o b memory t (box_object id) k.order timeout o.mails.sending o.mails.into (box_named o id least most ∙ ap (option_map (λ k. k.order)) at) all
@@ -85,7 +90,8 @@ box_fits o b memory t id timeout (Some k) at least most all = first_fits o b mem
 
 -- ---- message buffers
 
-buffer_deleted : (o : Objects) (b : Base) (id : ℕ) (slot : Option MessageBuffer) → buffer_at o.mails id ≡ slot → HavePlaces b → AreRight (order_for o) b → MailRight o (with_buffer o.mails id None) (calls.buffer_emptied b id slot)
+buffer_deleted : (o : Objects) (b : Base) (id : ℕ) (slot : Option MessageBuffer) → buffer_at o.mails id ≡ slot → HavePlaces b → AreRight (order_for o) b →
+    MailRight o (with_buffer o.mails id None) (calls.buffer_emptied b id slot)
 buffer_deleted o b id None at has all = buffer_free o b id None (λ least. at) all
 buffer_deleted o b id (Some k) at has all =
     let c : Base = end_waits k.order (senders_object id) b in
@@ -104,27 +110,33 @@ stored_fits o true q all = all
 stored_fits o false q all = tt
 
 -- a message that needn't wait
-pub at_once_fits : (o : Objects) (b : Base) (memory : List ℕ) (id : ℕ) (k : MessageBuffer) (first : Bool) (receiver : Option ℕ) (messages : List (List ℕ)) (bytes : List ℕ) → buffer_at o.mails id ≡ Some k → AreRight (order_for o) b →
+pub at_once_fits : (o : Objects) (b : Base) (memory : List ℕ) (id : ℕ) (k : MessageBuffer) (first : Bool) (receiver : Option ℕ) (messages : List (List ℕ)) (bytes : List ℕ) →
+    buffer_at o.mails id ≡ Some k → AreRight (order_for o) b →
     SentRight o (sent_at_once (parts o b memory) id k first receiver messages bytes)
 at_once_fits o b memory id k false receiver messages bytes at all = tt
 at_once_fits o b memory id k true (Some receiver) (oldest ∷ later) bytes at all = tt
 at_once_fits o b memory id k true (Some receiver) [] bytes at all = release_fits (order_for o) b receiver (plain (pos (length bytes))) all
-at_once_fits o b memory id k true None messages bytes at all = stored_fits o (has_space k bytes) (message_stored (parts o b memory) id k bytes) (buffer_same o b id k _ at refl all)
+at_once_fits o b memory id k true None messages bytes at all = stored_fits o (has_space k bytes) (message_stored (parts o b memory) id k bytes)
+    (buffer_same o b id k _ at refl all)
 
-sent_or_waits_fits : (o : Objects) (b : Base) (memory : List ℕ) (t id : ℕ) (k : MessageBuffer) (timeout : ℤ) (bytes : List ℕ) (left : Option MailParts) → buffer_at o.mails id ≡ Some k → 1 ≤ id → id ≤ 64 →
+sent_or_waits_fits : (o : Objects) (b : Base) (memory : List ℕ) (t id : ℕ) (k : MessageBuffer) (timeout : ℤ) (bytes : List ℕ) (left : Option MailParts) →
+    buffer_at o.mails id ≡ Some k → 1 ≤ id → id ≤ 64 →
     AreRight (order_for o) b → SentRight o left → DoneRight o (calls.sent_or_waits (parts o b memory) t id k timeout bytes left)
 sent_or_waits_fits o b memory t id k timeout bytes (Some left) at least most all sent = sent
 sent_or_waits_fits o b memory t id k timeout bytes None at least most all sent =
-    wait_or_ends_fits o b memory t (senders_object id) k.order timeout (slice_set o.mails.sending t bytes) o.mails.into (senders_named o id least most ∙ ap (option_map (λ k. k.order)) at) all
+    wait_or_ends_fits o b memory t (senders_object id) k.order timeout (slice_set o.mails.sending t bytes) o.mails.into
+        (senders_named o id least most ∙ ap (option_map (λ k. k.order)) at) all
 
-send_fits : (o : Objects) (b : Base) (memory : List ℕ) (t id : ℕ) (bytes : List ℕ) (timeout : ℤ) (slot : Option MessageBuffer) → buffer_at o.mails id ≡ slot → 1 ≤ id → id ≤ 64 → AreRight (order_for o) b →
+send_fits : (o : Objects) (b : Base) (memory : List ℕ) (t id : ℕ) (bytes : List ℕ) (timeout : ℤ) (slot : Option MessageBuffer) → buffer_at o.mails id ≡ slot → 1 ≤ id → id ≤ 64 →
+    AreRight (order_for o) b →
     DoneRight o (calls.sent_to_buffer (parts o b memory) t id bytes timeout slot)
 send_fits o b memory t id bytes timeout None at least most all = all
 send_fits o b memory t id bytes timeout (Some k) at least most all =
     sent_or_waits_fits o b memory t id k timeout bytes _ at least most all
     (at_once_fits o b memory id k (would_be_first k.order b t (senders b k id)) (first_of (receivers b id)) k.messages bytes at all)
 
-by_caller_fits : (o : Objects) (b : Base) (memory : List ℕ) (t id : ℕ) (k : MessageBuffer) (address : ℕ) (timeout : ℤ) (receiver sender : Option ℕ) (messages : List (List ℕ)) → buffer_at o.mails id ≡ Some k → 1 ≤ id → id ≤ 64 →
+by_caller_fits : (o : Objects) (b : Base) (memory : List ℕ) (t id : ℕ) (k : MessageBuffer) (address : ℕ) (timeout : ℤ) (receiver sender : Option ℕ) (messages : List (List ℕ)) →
+    buffer_at o.mails id ≡ Some k → 1 ≤ id → id ≤ 64 →
     AreRight (order_for o) b → DoneRight o (calls.taken_by_caller (parts o b memory) t id k address timeout receiver sender messages)
 by_caller_fits o b memory t id k address timeout (Some receiver) sender messages at least most all =
     wait_or_ends_fits o b memory t (receivers_object id) Fifo timeout o.mails.sending (slice_set o.mails.into t address) (receivers_named o id least most ∙ ap (option_map {T = MessageBuffer} (λ k. Fifo)) at) all
@@ -133,7 +145,8 @@ by_caller_fits o b memory t id k address timeout None (Some sender) [] at least 
 by_caller_fits o b memory t id k address timeout None None [] at least most all =
     wait_or_ends_fits o b memory t (receivers_object id) Fifo timeout o.mails.sending (slice_set o.mails.into t address) (receivers_named o id least most ∙ ap (option_map {T = MessageBuffer} (λ k. Fifo)) at) all
 
-receive_fits : (o : Objects) (b : Base) (memory : List ℕ) (t id address : ℕ) (timeout : ℤ) (slot : Option MessageBuffer) → buffer_at o.mails id ≡ slot → 1 ≤ id → id ≤ 64 → AreRight (order_for o) b →
+receive_fits : (o : Objects) (b : Base) (memory : List ℕ) (t id address : ℕ) (timeout : ℤ) (slot : Option MessageBuffer) → buffer_at o.mails id ≡ slot → 1 ≤ id → id ≤ 64 →
+    AreRight (order_for o) b →
     DoneRight o (calls.received_from_buffer (parts o b memory) t id address timeout slot)
 receive_fits o b memory t id address timeout None at least most all = all
 receive_fits o b memory t id address timeout (Some k) at least most all =
@@ -143,7 +156,8 @@ receive_fits o b memory t id address timeout (Some k) at least most all =
 pub mail_calls_fit : (o : Objects) (b : Base) (memory : List ℕ) (who : Who) (c : MailCall) → HavePlaces b → AreRight (order_for o) b →
     MailRight o (mail_call (record { base = b; table = o.mails; memory = memory }) who c).table (mail_call (record { base = b; table = o.mails; memory = memory }) who c).base
 unfolding mail_call calls.create_box calls.delete_box calls.send_box calls.receive_box calls.refer_box calls.create_buffer calls.delete_buffer calls.send_buffer calls.receive_buffer calls.refer_buffer
-mail_calls_fit o b memory who (call.CreMbx attributes) has all = checked_fits o (calls.create_box_checks o.mails attributes) b memory _ all (λ none. box_made o b (Some (calls.new_box attributes)) all)
+mail_calls_fit o b memory who (call.CreMbx attributes) has all = checked_fits o (calls.create_box_checks o.mails attributes) b memory _ all
+    (λ none. box_made o b (Some (calls.new_box attributes)) all)
 mail_calls_fit o b memory who (call.DelMbx id) has all =
     checked_fits o (object_checks id (has_mbx o.mails (natural id)) []) b memory _ all (λ none. box_deleted o b (natural id) (box_at o.mails (natural id)) refl has all)
 mail_calls_fit o b memory who (call.SndMbx id priority value) has all =

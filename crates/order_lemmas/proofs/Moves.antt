@@ -50,7 +50,8 @@ either_known false one other first second = second
 
 closed_known : (b : Base) (dv : Devices) (id dd : ℕ) (slot : Option Opened) → AreKnown dv → AreKnown (endings.closed_after b dv id dd slot)
 closed_known b dv id dd None known = known
-closed_known b dv id dd (Some opened) known = either_known opened.closing _ _ (free_known (fifo_queue b (close_object dd)) (dropped dv id) dd (beside_known dv (dropped dv id) (dropped_beside dv id) known)) known
+closed_known b dv id dd (Some opened) known = either_known opened.closing _ _ (free_known (fifo_queue b (close_object dd)) (dropped dv id) dd
+    (beside_known dv (dropped dv id) (dropped_beside dv id) known)) known
 
 row_known : (p : DevParts) (d : ℕ) (link : Link) (id : ℕ) (served : Served) (slot : Option Row) → AreKnown p.table → Kept AreKnown (endings.arrive_row p d link id served slot)
 row_known p d link id served None known = tt
@@ -93,7 +94,8 @@ row_mails p d link id served (Some row) = by_life (is_at_driver row.life)
 
 fit_mails : (fit : Bool) (p : DevParts) (ending : Ending) (link : Link) (given : Given) → LeavesMails p (endings.arrive_fit fit p ending link given)
 fit_mails false p ending link given = tt
-fit_mails true p ending link given = row_mails p ending.device link given.request.id (endings.served_of link.kind link.store given.request ending.how) (row_at p.table given.request.id)
+fit_mails true p ending link given = row_mails p ending.device link given.request.id (endings.served_of link.kind link.store given.request ending.how)
+    (row_at p.table given.request.id)
 
 given_mails : (p : DevParts) (ending : Ending) (link : Link) (given : Option Given) → LeavesMails p (endings.arrive_given p ending link given)
 given_mails p ending link None = tt
@@ -111,11 +113,13 @@ mails_there : (p q : DevParts) (found : Option DevParts) → found ≡ Some q �
 mails_there p q None is leaves = absurd (cc is)
 mails_there p q (Some other) is leaves = let same : other ≡ q = cc is in ap (λ (parts : DevParts). parts.mails) (sym same) ∙ leaves
 
+-- so their table is as it was
 pub arrive_mails : (p q : DevParts) (ending : Ending) → arrive p ending ≡ Some q → q.mails ≡ p.mails
 arrive_mails p q ending is = mails_there p q (arrive p ending) is (leaves_mails p ending)
 
 -- ---- no device has the ID 0
 
+-- there is no link to a driver of a device 0
 abbrev pub HasNoZero : Devices → Type 0
 HasNoZero dv = link_at dv 0 ≡ None
 
@@ -154,7 +158,8 @@ either_zero false one other first second = second
 
 asked_gives : (dv : Devices) (d : ℕ) (link : Link) (given : Option Given) → link_at dv d ≡ Some link → HasNoZero dv → HasNoZero (asked_given dv d link given)
 asked_gives dv d link None there none = none
-asked_gives dv d link (Some given) there none = either_zero given.asked dv (record dv { links = slice_set dv.links d (Some (link_asked d link given)) }) none (link_written dv d link _ there none)
+asked_gives dv d link (Some given) there none = either_zero given.asked dv (record dv { links = slice_set dv.links d (Some (link_asked d link given)) }) none
+    (link_written dv d link _ there none)
 
 asked_links : (dv : Devices) (d : ℕ) (slot : Option Link) → link_at dv d ≡ slot → HasNoZero dv → HasNoZero (asked_link dv d slot)
 asked_links dv d None there none = none

@@ -17,6 +17,7 @@ use Rattle.kernel_lemmas.proofs.Tables.{entry_each}
 
 -- ---- ranges
 
+-- where two tests hold together, each does
 pub both_true : (a b : Bool) → (a && b) ≡ true → (a ≡ true) × (b ≡ true)
 both_true true b both = (refl, both)
 both_true false b both = absurd (cc both)
@@ -31,7 +32,8 @@ in_range low high object = nat_le low object && nat_lt object high
 
 -- a number of a range isn't below it
 pub range_least : (low high object : ℕ) → in_range low high object ≡ true → low ≤ object
-range_least low high object is = let parts = both_true (nat_le low object) (nat_lt object high) is in let least : nat_le low object ≡ true = parts.0 in grind (arith, nat_tests, least)
+range_least low high object is = let parts = both_true (nat_le low object) (nat_lt object high) is in let least : nat_le low object ≡ true = parts.0 in grind
+    (arith, nat_tests, least)
 
 range_past : (low high object : ℕ) → high ≤ object → in_range low high object ≡ false
 range_past low high object past = second_false (nat_le low object) (nat_lt object high) (grind (arith, nat_tests, past))
@@ -40,7 +42,8 @@ at_least : (n object : ℕ) → object ≤ n → nat_le object n ≡ true
 at_least n object is = grind (arith, nat_tests, is)
 
 range_true : (low high object : ℕ) → low ≤ object → object + 1 ≤ high → in_range low high object ≡ true
-range_true low high object least most = let first : nat_le low object ≡ true = grind (arith, nat_tests, least) in let second : nat_lt object high ≡ true = grind (arith, nat_tests, most) in rw (first, second) refl
+range_true low high object least most = let first : nat_le low object ≡ true = grind (arith, nat_tests, least) in let second : nat_lt object high ≡ true = grind
+    (arith, nat_tests, most) in rw (first, second) refl
 
 not_task : (object : ℕ) → 2 ≤ object → nat_lt object 2 ≡ false
 not_task object is = grind (arith, nat_tests, is)
@@ -51,7 +54,8 @@ first_false false b is = refl
 
 -- and is below its end
 pub range_most : (low high object : ℕ) → in_range low high object ≡ true → object + 1 ≤ high
-range_most low high object is = let parts = both_true (nat_le low object) (nat_lt object high) is in let most : nat_lt object high ≡ true = parts.1 in grind (arith, nat_tests, most)
+range_most low high object is = let parts = both_true (nat_le low object) (nat_lt object high) is in let most : nat_lt object high ≡ true = parts.1 in grind
+    (arith, nat_tests, most)
 
 range_before : (low high object : ℕ) → object + 1 ≤ low → in_range low high object ≡ false
 range_before low high object before = first_false (nat_le low object) (nat_lt object high) (grind (arith, nat_tests, before))
@@ -60,7 +64,8 @@ device_before : (object : ℕ) → object + 1 ≤ 576 → (nat_le 576 object && 
 device_before object before = first_false (nat_le 576 object) (nat_le object 648) (grind (arith, nat_tests, before))
 
 device_true : (object : ℕ) → 576 ≤ object → object ≤ 648 → (nat_le 576 object && nat_le object 648) ≡ true
-device_true object least most = let first : nat_le 576 object ≡ true = grind (arith, nat_tests, least) in let second : nat_le object 648 ≡ true = grind (arith, nat_tests, most) in rw (first, second) refl
+device_true object least most = let first : nat_le 576 object ≡ true = grind (arith, nat_tests, least) in let second : nat_le object 648 ≡ true = grind
+    (arith, nat_tests, most) in rw (first, second) refl
 
 or_none : (order : Option Order) → or_order order None ≡ order
 or_none None = refl
@@ -82,7 +87,8 @@ sem_is o object own =
     let not_fixed : (nat_le 448 object && nat_lt object 512) ≡ false = range_before 448 512 object (omega (arith, most)) in
     let not_variable : (nat_le 512 object && nat_lt object 576) ≡ false = range_before 512 576 object (omega (arith, most)) in
     let not_device = device_before object (omega (arith, most)) in
-    rw (task, not_flag, not_box, not_mutex, not_senders, not_receivers, not_fixed, not_variable, not_device, own) (or_none (option_map (λ k. k.order) (sem_at o.sem_flags (object - 63))))
+    rw (task, not_flag, not_box, not_mutex, not_senders, not_receivers, not_fixed, not_variable, not_device, own)
+        (or_none (option_map (λ k. k.order) (sem_at o.sem_flags (object - 63))))
 
 -- that of an event flag
 pub flag_is : (o : Objects) (object : ℕ) → in_range 128 192 object ≡ true → order_for o object ≡ option_map (λ k. k.order) (flag_at o.sem_flags (object - 127))
@@ -98,7 +104,8 @@ flag_is o object own =
     let not_fixed : (nat_le 448 object && nat_lt object 512) ≡ false = range_before 448 512 object (omega (arith, most)) in
     let not_variable : (nat_le 512 object && nat_lt object 576) ≡ false = range_before 512 576 object (omega (arith, most)) in
     let not_device = device_before object (omega (arith, most)) in
-    rw (task, not_sem, not_box, not_mutex, not_senders, not_receivers, not_fixed, not_variable, not_device, own) (or_none (option_map (λ k. k.order) (flag_at o.sem_flags (object - 127))))
+    rw (task, not_sem, not_box, not_mutex, not_senders, not_receivers, not_fixed, not_variable, not_device, own)
+        (or_none (option_map (λ k. k.order) (flag_at o.sem_flags (object - 127))))
 
 -- that of a mailbox
 pub box_is : (o : Objects) (object : ℕ) → in_range 192 256 object ≡ true → order_for o object ≡ option_map (λ k. k.order) (box_at o.mails (object - 191))
@@ -114,7 +121,8 @@ box_is o object own =
     let not_fixed : (nat_le 448 object && nat_lt object 512) ≡ false = range_before 448 512 object (omega (arith, most)) in
     let not_variable : (nat_le 512 object && nat_lt object 576) ≡ false = range_before 512 576 object (omega (arith, most)) in
     let not_device = device_before object (omega (arith, most)) in
-    rw (task, not_sem, not_flag, not_mutex, not_senders, not_receivers, not_fixed, not_variable, not_device, own) (or_none (option_map (λ k. k.order) (box_at o.mails (object - 191))))
+    rw (task, not_sem, not_flag, not_mutex, not_senders, not_receivers, not_fixed, not_variable, not_device, own)
+        (or_none (option_map (λ k. k.order) (box_at o.mails (object - 191))))
 
 -- that of a mutex
 pub mutex_is : (o : Objects) (object : ℕ) → in_range 256 320 object ≡ true → order_for o object ≡ option_map (λ k. k.order) (mutex_at o.mutexes (object - 255))
@@ -130,7 +138,8 @@ mutex_is o object own =
     let not_fixed : (nat_le 448 object && nat_lt object 512) ≡ false = range_before 448 512 object (omega (arith, most)) in
     let not_variable : (nat_le 512 object && nat_lt object 576) ≡ false = range_before 512 576 object (omega (arith, most)) in
     let not_device = device_before object (omega (arith, most)) in
-    rw (task, not_sem, not_flag, not_box, not_senders, not_receivers, not_fixed, not_variable, not_device, own) (or_none (option_map (λ k. k.order) (mutex_at o.mutexes (object - 255))))
+    rw (task, not_sem, not_flag, not_box, not_senders, not_receivers, not_fixed, not_variable, not_device, own)
+        (or_none (option_map (λ k. k.order) (mutex_at o.mutexes (object - 255))))
 
 -- that of the senders of a message buffer
 pub senders_is : (o : Objects) (object : ℕ) → in_range 320 384 object ≡ true → order_for o object ≡ option_map (λ k. k.order) (buffer_at o.mails (object - 319))
@@ -146,7 +155,8 @@ senders_is o object own =
     let not_fixed : (nat_le 448 object && nat_lt object 512) ≡ false = range_before 448 512 object (omega (arith, most)) in
     let not_variable : (nat_le 512 object && nat_lt object 576) ≡ false = range_before 512 576 object (omega (arith, most)) in
     let not_device = device_before object (omega (arith, most)) in
-    rw (task, not_sem, not_flag, not_box, not_mutex, not_receivers, not_fixed, not_variable, not_device, own) (or_none (option_map (λ k. k.order) (buffer_at o.mails (object - 319))))
+    rw (task, not_sem, not_flag, not_box, not_mutex, not_receivers, not_fixed, not_variable, not_device, own)
+        (or_none (option_map (λ k. k.order) (buffer_at o.mails (object - 319))))
 
 -- that of the receivers of a message buffer
 pub receivers_is : (o : Objects) (object : ℕ) → in_range 384 448 object ≡ true → order_for o object ≡ option_map (λ k. Fifo) (buffer_at o.mails (object - 383))
@@ -178,7 +188,8 @@ fixed_is o object own =
     let not_receivers : (nat_le 384 object && nat_lt object 448) ≡ false = range_past 384 448 object (omega (arith, least)) in
     let not_variable : (nat_le 512 object && nat_lt object 576) ≡ false = range_before 512 576 object (omega (arith, most)) in
     let not_device = device_before object (omega (arith, most)) in
-    rw (task, not_sem, not_flag, not_box, not_mutex, not_senders, not_receivers, not_variable, not_device, own) (or_none (option_map (λ k. k.order) (fixed_at o.pools (object - 447))))
+    rw (task, not_sem, not_flag, not_box, not_mutex, not_senders, not_receivers, not_variable, not_device, own)
+        (or_none (option_map (λ k. k.order) (fixed_at o.pools (object - 447))))
 
 -- that of a variable pool
 pub variable_is : (o : Objects) (object : ℕ) → in_range 512 576 object ≡ true → order_for o object ≡ option_map (λ k. k.order) (variable_at o.pools (object - 511))
@@ -194,7 +205,8 @@ variable_is o object own =
     let not_receivers : (nat_le 384 object && nat_lt object 448) ≡ false = range_past 384 448 object (omega (arith, least)) in
     let not_fixed : (nat_le 448 object && nat_lt object 512) ≡ false = range_past 448 512 object (omega (arith, least)) in
     let not_device = device_before object (omega (arith, most)) in
-    rw (task, not_sem, not_flag, not_box, not_mutex, not_senders, not_receivers, not_fixed, not_device, own) (or_none (option_map (λ k. k.order) (variable_at o.pools (object - 511))))
+    rw (task, not_sem, not_flag, not_box, not_mutex, not_senders, not_receivers, not_fixed, not_device, own)
+        (or_none (option_map (λ k. k.order) (variable_at o.pools (object - 511))))
 
 -- that of a wait for a device
 pub device_is : (o : Objects) (object : ℕ) → 576 ≤ object → object ≤ 648 → order_for o object ≡ Some Fifo
@@ -273,7 +285,8 @@ free_above from (Some k ∷ slots) = above_next from (free_from (from + 1) slots
     above_next from free (inl none) = inl none
     above_next from free (inr above) = inr (omega arith)
 
-not_taken : {A : Type 0} → (from : ℕ) (k : A) (slots : List (Option A)) → 1 ≤ from → (free_from (from + 1) slots ≡ 0) ⊎ (from + 1 ≤ free_from (from + 1) slots) → from ≡ free_from (from + 1) slots → ⊥
+not_taken : {A : Type 0} → (from : ℕ) (k : A) (slots : List (Option A)) → 1 ≤ from → (free_from (from + 1) slots ≡ 0) ⊎ (from + 1 ≤ free_from (from + 1) slots) →
+    from ≡ free_from (from + 1) slots → ⊥
 not_taken from k slots one (inl none) is = absurd (omega arith)
 not_taken from k slots one (inr above) is = absurd (omega arith)
 
@@ -282,7 +295,8 @@ unfolding free_from
 free_at from [] place one is = refl
 free_at from (None ∷ slots) zero one is = refl
 free_at from (None ∷ slots) (suc place) one is = absurd (omega (arith, is))
-free_at from (Some k ∷ slots) zero one is = absurd (not_taken from k slots one (free_above (from + 1) slots) (let same : from + 0 ≡ free_from (from + 1) slots = is in omega arith))
+free_at from (Some k ∷ slots) zero one is = absurd (not_taken from k slots one (free_above (from + 1) slots)
+    (let same : from + 0 ≡ free_from (from + 1) slots = is in omega arith))
 free_at from (Some k ∷ slots) (suc place) one is = free_at (from + 1) slots place (omega arith) (let same : from + suc place ≡ free_from (from + 1) slots = is in omega arith)
 
 -- the slot of the least free ID is free
@@ -307,12 +321,14 @@ joined Idle whole x y (inl same) = inl (ap whole same)
 joined Idle whole x y (inr idle) = inr idle
 
 -- what is chosen in a range stays the same, or is idle, where that holds of the range
-pub range_apart : (Idle : Type 0) (range : Bool) (whole : Option Order → Option Order) (x y other : Option Order) → (range ≡ true → (x ≡ y) ⊎ Idle) → (whole (cond range x other) ≡ whole (cond range y other)) ⊎ Idle
+pub range_apart : (Idle : Type 0) (range : Bool) (whole : Option Order → Option Order) (x y other : Option Order) → (range ≡ true → (x ≡ y) ⊎ Idle) →
+    (whole (cond range x other) ≡ whole (cond range y other)) ⊎ Idle
 range_apart Idle true whole x y other at = joined Idle whole x y (at refl)
 range_apart Idle false whole x y other at = inl refl
 
 -- the same of two ranges behind one another
-pub ranges_apart : (Idle : Type 0) (one two : Bool) (whole : Option Order → Option Order) (x y v w other : Option Order) → (one ≡ true → (x ≡ y) ⊎ Idle) → (two ≡ true → (v ≡ w) ⊎ Idle) →
+pub ranges_apart : (Idle : Type 0) (one two : Bool) (whole : Option Order → Option Order) (x y v w other : Option Order) → (one ≡ true → (x ≡ y) ⊎ Idle) →
+    (two ≡ true → (v ≡ w) ⊎ Idle) →
     (whole (cond one x (cond two v other)) ≡ whole (cond one y (cond two w other))) ⊎ Idle
 ranges_apart Idle true two whole x y v w other first second = joined Idle whole x y (first refl)
 ranges_apart Idle false two whole x y v w other first second = range_apart Idle two whole v w other second

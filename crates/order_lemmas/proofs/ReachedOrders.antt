@@ -77,14 +77,14 @@ handed_orders modes.Free p has = record {
 
 served_orders : (p q : Parts) → FewDevices p → serve_object p ≡ Some q → HasOrders p → HasOrders q
 served_orders p q few is has =
-    let dv : Devices = p.objects.devices in
     let it = serving p q few is in
     record {
       places = placed.served p q few is has.places;
       none = subst (λ (links : List (Option Link)). entry links 0 ≡ None) (sym it.links) has.none;
       known = it.known has.known;
       orders = right_same (order_for p.objects) (order_for q.objects) q.base it.orders
-          (it.ends.keeps (AreRight (order_for p.objects)) (right_survives p.objects (IsWished p.objects.devices) (λ dd wished. wished_few p.objects.devices dd has.known wished)) has.orders);
+          (it.ends.keeps (AreRight (order_for p.objects)) (right_survives p.objects (IsWished p.objects.devices)
+              (λ dd wished. wished_few p.objects.devices dd has.known wished)) has.orders);
     }
 
 dev_right : (p : Parts) → HasOrders p → DevRight p.objects (dev_parts p)
@@ -104,35 +104,43 @@ arrived_orders p e q is has = record {
 pub orders_are_kept : IsKept HasOrders
 orders_are_kept = record {
   few = λ p has. has.places.few;
-  task_calls = λ p who c has. of_base p _ (placed.task_calls p who c has.places) (task_calls_fit (order_for p.objects) (task_orders p.objects) p.base p.objects.mutexes who c has.orders) has;
-  sem_flag_calls = λ p who c has. record { places = placed.sem_flag_calls p who c has.places; none = has.none; known = has.known; orders = sem_flag_calls_fit p.objects p.base who c has.places.base has.orders };
-  mutex_calls = λ p who c has. record { places = placed.mutex_calls p who c has.places; none = has.none; known = has.known; orders = mutex_calls_fit p.objects p.base who c has.places.base has.orders };
-  mail_calls = λ p who c has. record { places = placed.mail_calls p who c has.places; none = has.none; known = has.known; orders = mail_calls_fit p.objects p.base p.memory who c has.places.base has.orders };
-  pool_calls = λ p who c has. record { places = placed.pool_calls p who c has.places; none = has.none; known = has.known; orders = pool_calls_fit p.objects p.base who c has.places.base has.orders };
+  task_calls = λ p who c has. of_base p _ (placed.task_calls p who c has.places) (task_calls_fit (order_for p.objects)
+      (task_orders p.objects) p.base p.objects.mutexes who c has.orders) has;
+  sem_flag_calls = λ p who c has. record
+      { places = placed.sem_flag_calls p who c has.places; none = has.none; known = has.known; orders = sem_flag_calls_fit p.objects p.base who c has.places.base has.orders };
+  mutex_calls = λ p who c has. record
+      { places = placed.mutex_calls p who c has.places; none = has.none; known = has.known; orders = mutex_calls_fit p.objects p.base who c has.places.base has.orders };
+  mail_calls = λ p who c has. record
+      { places = placed.mail_calls p who c has.places; none = has.none; known = has.known; orders = mail_calls_fit p.objects p.base p.memory who c has.places.base has.orders };
+  pool_calls = λ p who c has. record
+      { places = placed.pool_calls p who c has.places; none = has.none; known = has.known; orders = pool_calls_fit p.objects p.base who c has.places.base has.orders };
   time_calls = λ p c has. record {
     places = placed.time_calls p c has.places;
     none = has.none;
     known = has.known;
-    orders = right_same (order_for p.objects) (order_for (record p.objects { clocks = (time_call p.base p.objects.clocks c).table })) (time_call p.base p.objects.clocks c).base (λ object. refl)
+    orders = right_same (order_for p.objects) (order_for (record p.objects { clocks = (time_call p.base p.objects.clocks c).table })) (time_call p.base p.objects.clocks c).base
+        (λ object. refl)
         (time_calls_fit (order_for p.objects) p.base p.objects.clocks c has.orders);
   };
   context_calls = λ p who c has. record {
     places = placed.context_calls p who c has.places;
     none = has.none;
     known = has.known;
-    orders = right_same (order_for p.objects) (order_for (record p.objects { contexts = (context_call p.base p.objects.contexts who c).table })) (context_call p.base p.objects.contexts who c).base (λ object. refl)
+    orders = right_same (order_for p.objects) (order_for (record p.objects { contexts = (context_call p.base p.objects.contexts who c).table }))
+        (context_call p.base p.objects.contexts who c).base (λ object. refl)
         (context_calls_fit (order_for p.objects) p.base p.objects.contexts who c has.orders);
   };
   device_calls = λ p who c has.
-      let q : DevParts = (device_call (dev_parts p) who c).parts in
       let right = device_calls_fit p.objects (dev_parts p) who c has.none has.places.few (dev_right p has) in
       record {
         places = placed.device_calls p who c has.places;
         none = devices.calls_keep HasNoZero zero_moves (dev_parts p) who c has.none;
         known = right.known;
-        orders = right_same (order_for (record p.objects { mails = (device_call (dev_parts p) who c).parts.mails })) (order_for (with_devices p (device_call (dev_parts p) who c).parts).objects) (device_call (dev_parts p) who c).parts.base (λ object. refl) right.orders;
+        orders = right_same (order_for (record p.objects { mails = (device_call (dev_parts p) who c).parts.mails }))
+            (order_for (with_devices p (device_call (dev_parts p) who c).parts).objects) (device_call (dev_parts p) who c).parts.base (λ object. refl) right.orders;
       };
-  left = λ p t all has. record { places = placed.left p t all has.places; none = has.none; known = has.known; orders = right_same (order_for p.objects) _ p.base (λ object. refl) has.orders };
+  left = λ p t all has. record { places = placed.left p t all has.places; none = has.none; known = has.known; orders = right_same (order_for p.objects) _ p.base
+      (λ object. refl) has.orders };
   freed = λ p t m is has. record { places = placed.freed p t m is has.places; none = has.none; known = has.known; orders = free_last_fits p.objects p.base t m is has.orders };
   deleted = λ p t has. of_base p _ (placed.deleted p t has.places) (delete_fits (order_for p.objects) p.base t has.orders) has;
   refreshed = λ p t priority has. of_base p _ (placed.refreshed p t priority has.places) (set_current_fits (order_for p.objects) p.base t priority has.orders) has;
@@ -157,7 +165,8 @@ orders_are_kept = record {
 
 -- ---- the start
 
-alone : (P : Option Task → Type 0) (priority t : ℕ) → P (Some (record { phase = Ready; queue = Fifo; base = priority; initial = priority; current = priority; wakeups = 0; suspensions = 0; stack = 1024 })) → P None →
+alone : (P : Option Task → Type 0) (priority t : ℕ) →
+    P (Some (record { phase = Ready; queue = Fifo; base = priority; initial = priority; current = priority; wakeups = 0; suspensions = 0; stack = 1024 })) → P None →
     P (entry (base_start priority).tasks t)
 alone P priority t one nothing =
     let slot : Option Task = Some (record { phase = Ready; queue = Fifo; base = priority; initial = priority; current = priority; wakeups = 0; suspensions = 0; stack = 1024 }) in
@@ -207,5 +216,6 @@ pub reached_orders : (script : Script) (mode : Mode) (budget : ℕ) (moves : Lis
 reached_orders script mode budget moves runnable = reached_has HasOrders orders_are_kept script mode budget moves (start_orders script runnable)
 
 -- so each task that waits stands in the queue of an object that there is, in its order
-pub reached_orderly : (script : Script) (mode : Mode) (budget : ℕ) (moves : List Move) → IsRunnable script → IsOrderly (state_after script mode budget moves).base (state_after script mode budget moves).objects
+pub reached_orderly : (script : Script) (mode : Mode) (budget : ℕ) (moves : List Move) → IsRunnable script →
+    IsOrderly (state_after script mode budget moves).base (state_after script mode budget moves).objects
 reached_orderly script mode budget moves runnable = record { each = (reached_orders script mode budget moves runnable).orders }

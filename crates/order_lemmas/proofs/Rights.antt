@@ -43,17 +43,20 @@ IsIdle b object = (t : ℕ) → waits_for b object t ≡ false
 abbrev pub IsApart : Orders → Orders → Base → Type 0
 IsApart orders now b = (object : ℕ) → (now object ≡ orders object) ⊎ IsIdle b object
 
+-- a test that cannot be true is false
 pub refuted : (test : Bool) → (test ≡ true → ⊥) → test ≡ false
 refuted true denied = absurd (denied refl)
 refuted false denied = refl
 
 -- ---- other orders
 
-object_apart : (orders now : Orders) (by : Order) (object : ℕ) → (now object ≡ orders object) ⊎ (waits_in object (Waiting object) ≡ false) → orders object ≡ Some by → now object ≡ Some by
+object_apart : (orders now : Orders) (by : Order) (object : ℕ) → (now object ≡ orders object) ⊎ (waits_in object (Waiting object) ≡ false) → orders object ≡ Some by →
+    now object ≡ Some by
 object_apart orders now by object (inl same) fits = same ∙ fits
 object_apart orders now by object (inr idle) fits = let on = itself object in absurd (cc (on, idle))
 
-phase_apart : (orders now : Orders) (by : Order) (phase : Phase) → ((object : ℕ) → (now object ≡ orders object) ⊎ (waits_in object phase ≡ false)) → FitsPhase orders by phase → FitsPhase now by phase
+phase_apart : (orders now : Orders) (by : Order) (phase : Phase) → ((object : ℕ) → (now object ≡ orders object) ⊎ (waits_in object phase ≡ false)) → FitsPhase orders by phase →
+    FitsPhase now by phase
 phase_apart orders now by (Waiting object) each fits = object_apart orders now by object (each object) fits
 phase_apart orders now by Ready each fits = tt
 phase_apart orders now by Dormant each fits = tt
@@ -104,7 +107,8 @@ row_fits orders b v k all at = subst (FitsRow orders) at (all v)
 -- a task is made
 pub create_fits : (orders : Orders) (b : Base) (v priority stack : ℕ) → AreRight orders b → AreRight orders (create b v priority stack)
 create_fits orders b v priority stack all =
-    let slot : Option Task = Some (record { phase = Dormant; queue = Fifo; base = priority; initial = priority; current = priority; wakeups = 0; suspensions = 0; stack = stack }) in
+    let slot : Option Task = Some
+        (record { phase = Dormant; queue = Fifo; base = priority; initial = priority; current = priority; wakeups = 0; suspensions = 0; stack = stack }) in
     written orders b v slot all tt
 
 -- a task becomes READY
@@ -114,20 +118,24 @@ ready_fits orders b v all = entry_cases (AreRight orders) (task_at b v) b (λ k.
 
 -- a task is gone
 pub delete_fits : (orders : Orders) (b : Base) (v : ℕ) → AreRight orders b → AreRight orders (delete b v)
-delete_fits orders b v all = entry_cases (AreRight orders) (task_at b v) b (λ k. record b { tasks = slice_set b.tasks v None; order = without v b.order; since = without v b.since; bytes = b.bytes - k.stack }) all
+delete_fits orders b v all = entry_cases (AreRight orders) (task_at b v) b (λ k. record b
+    { tasks = slice_set b.tasks v None; order = without v b.order; since = without v b.since; bytes = b.bytes - k.stack }) all
     (λ k at. written orders b v None all tt)
 
 -- a task ends
 pub dormant_fits : (orders : Orders) (b : Base) (v : ℕ) → AreRight orders b → AreRight orders (make_dormant b v)
-dormant_fits orders b v all = entry_cases (AreRight orders) (task_at b v) b (λ k. record (with_task (drop_wait b v) v (record k { phase = Dormant; base = k.initial; current = k.initial; wakeups = 0; suspensions = 0 })) { cur = gone v b.cur }) all
+dormant_fits orders b v all = entry_cases (AreRight orders) (task_at b v) b (λ k. record (with_task (drop_wait b v) v
+    (record k { phase = Dormant; base = k.initial; current = k.initial; wakeups = 0; suspensions = 0 })) { cur = gone v b.cur }) all
     (λ k at. let slot : Option Task = Some (record k { phase = Dormant; base = k.initial; current = k.initial; wakeups = 0; suspensions = 0 }) in written orders b v slot all tt)
 
 -- a task is suspended
 pub suspend_fits : (orders : Orders) (b : Base) (v : ℕ) → AreRight orders b → AreRight orders (suspend b v)
-suspend_fits orders b v all = entry_cases (AreRight orders) (task_at b v) b (λ k. record (with_task b v (record k { suspensions = k.suspensions + 1 })) { cur = gone v b.cur }) all
+suspend_fits orders b v all = entry_cases (AreRight orders) (task_at b v) b (λ k. record (with_task b v (record k { suspensions = k.suspensions + 1 }))
+    { cur = gone v b.cur }) all
     (λ k at. written orders b v (Some (record k { suspensions = k.suspensions + 1 })) all (row_fits orders b v k all at))
 
-resumed_fits : (orders : Orders) (b : Base) (v : ℕ) (every free : Bool) (k : Task) → AreRight orders b → task_at b v ≡ Some k → AreRight orders (cond free b (resumed b v (cond every 0 (k.suspensions - 1)) k))
+resumed_fits : (orders : Orders) (b : Base) (v : ℕ) (every free : Bool) (k : Task) → AreRight orders b → task_at b v ≡ Some k →
+    AreRight orders (cond free b (resumed b v (cond every 0 (k.suspensions - 1)) k))
 resumed_fits orders b v every true k all at = all
 resumed_fits orders b v every false k all at = written orders b v (Some (record k { suspensions = cond every 0 (k.suspensions - 1) })) all (row_fits orders b v k all at)
 
@@ -143,7 +151,8 @@ set_base_fits orders b v priority all = entry_cases (AreRight orders) (task_at b
 
 -- a current priority changes
 pub set_current_fits : (orders : Orders) (b : Base) (v priority : ℕ) → AreRight orders b → AreRight orders (set_current b v priority)
-set_current_fits orders b v priority all = entry_cases (AreRight orders) (task_at b v) b (λ k. record (with_task b v (record k { current = priority })) { order = to_back v b.order }) all
+set_current_fits orders b v priority all = entry_cases (AreRight orders) (task_at b v) b (λ k. record (with_task b v (record k { current = priority }))
+    { order = to_back v b.order }) all
     (λ k at. written orders b v (Some (record k { current = priority })) all (row_fits orders b v k all at))
 
 -- requests to wake up are counted
@@ -152,14 +161,16 @@ set_wakeups_fits orders b v n all = entry_cases (AreRight orders) (task_at b v) 
     (λ k at. written orders b v (Some (record k { wakeups = n })) all (row_fits orders b v k all at))
 
 released_fits : (orders : Orders) (b : Base) (v : ℕ) (answer : Answer) (k : Task) (waits : Bool) → AreRight orders b →
-    AreRight orders (cond waits (record (with_task (drop_wait b v) v (record k { phase = Ready })) { order = back_unless_suspended v k.suspensions b.order; released = recorded v answer b.released }) b)
+    AreRight orders (cond waits (record (with_task (drop_wait b v) v (record k { phase = Ready }))
+        { order = back_unless_suspended v k.suspensions b.order; released = recorded v answer b.released }) b)
 released_fits orders b v answer k true all = written orders b v (Some (record k { phase = Ready })) all tt
 released_fits orders b v answer k false all = all
 
 -- a wait ends
 pub release_fits : (orders : Orders) (b : Base) (v : ℕ) (answer : Answer) → AreRight orders b → AreRight orders (release b v answer)
 release_fits orders b v answer all =
-    entry_cases (AreRight orders) (task_at b v) b (λ k. cond (is_waiting_phase k.phase) (record (with_task (drop_wait b v) v (record k { phase = Ready })) { order = back_unless_suspended v k.suspensions b.order; released = recorded v answer b.released }) b) all
+    entry_cases (AreRight orders) (task_at b v) b (λ k. cond (is_waiting_phase k.phase) (record (with_task (drop_wait b v) v (record k { phase = Ready }))
+        { order = back_unless_suspended v k.suspensions b.order; released = recorded v answer b.released }) b) all
     (λ k at. released_fits orders b v answer k (is_waiting_phase k.phase) all)
 
 limited_fits : (orders : Orders) (timeout : ℤ) (v : ℕ) (b : Base) → AreRight orders b → AreRight orders (limited timeout v b)
@@ -167,13 +178,17 @@ limited_fits orders (pos n) v b all = all
 limited_fits orders (negsuc n) v b all = all
 
 -- a wait for an object begins, in the order of its queue
-pub wait_fits : (orders : Orders) (b : Base) (v object : ℕ) (by : Order) (timeout : ℤ) → orders object ≡ Some by → AreRight orders b → AreRight orders (make_wait b v object by timeout)
+pub wait_fits : (orders : Orders) (b : Base) (v object : ℕ) (by : Order) (timeout : ℤ) → orders object ≡ Some by → AreRight orders b →
+    AreRight orders (make_wait b v object by timeout)
 wait_fits orders b v object by timeout there all =
-    entry_cases (AreRight orders) (task_at b v) b (λ k. limited timeout v (record (with_task (drop_wait b v) v (record k { phase = Waiting object; queue = by })) { order = to_back v b.order; since = to_back v b.since; cur = gone v b.cur })) all
-    (λ k at. limited_fits orders timeout v (record (with_task (drop_wait b v) v (record k { phase = Waiting object; queue = by })) { order = to_back v b.order; since = to_back v b.since; cur = gone v b.cur })
+    entry_cases (AreRight orders) (task_at b v) b (λ k. limited timeout v (record (with_task (drop_wait b v) v (record k { phase = Waiting object; queue = by }))
+        { order = to_back v b.order; since = to_back v b.since; cur = gone v b.cur })) all
+    (λ k at. limited_fits orders timeout v (record (with_task (drop_wait b v) v (record k { phase = Waiting object; queue = by }))
+        { order = to_back v b.order; since = to_back v b.since; cur = gone v b.cur })
     (written orders b v (Some (record k { phase = Waiting object; queue = by })) all there))
 
-moved_fits : (orders : Orders) (b : Base) (v object : ℕ) (by : Order) (k : Task) (waits : Bool) → orders object ≡ Some by → AreRight orders b → AreRight orders (cond waits (with_task (drop_wait b v) v (record k { phase = Waiting object; queue = by })) b)
+moved_fits : (orders : Orders) (b : Base) (v object : ℕ) (by : Order) (k : Task) (waits : Bool) → orders object ≡ Some by → AreRight orders b →
+    AreRight orders (cond waits (with_task (drop_wait b v) v (record k { phase = Waiting object; queue = by })) b)
 moved_fits orders b v object by k true there all = written orders b v (Some (record k { phase = Waiting object; queue = by })) all there
 moved_fits orders b v object by k false there all = all
 
@@ -187,7 +202,8 @@ move_fits orders b v object by there all =
 
 still_waits : (b : Base) (u t object : ℕ) (result : Answer) → waits_for (release b t result) object u ≡ true → (u ≡ t → ⊥)
 still_waits b u t object result waits same =
-    let over : waits_somewhere (task_at (release b t result) u) ≡ false = subst (λ (v : ℕ). waits_somewhere (task_at (release b t result) v) ≡ false) (sym same) (release_over b t result) in
+    let over : waits_somewhere (task_at (release b t result) u) ≡ false = subst (λ (v : ℕ). waits_somewhere (task_at (release b t result) v) ≡ false) (sym same)
+        (release_over b t result) in
     let on = waits_for_waits (release b t result) u object waits in
     absurd (cc (over, on))
 
@@ -220,7 +236,8 @@ stands_in Fifo b t object has waits =
     let one : 1 ≤ times t b.since = has.stands t object waits in
     omega (arith, is, one)
 stands_in Priority b t object has waits =
-    let is : times t (queue Priority b object) ≡ times t b.order = times_sort _ t (filter (waits_for b object) b.order) ∙ times_filter_is (waits_for b object) t b.order ∙ ap (λ test. cond test (times t b.order) 0) waits in
+    let is : times t (queue Priority b object) ≡ times t b.order = times_sort _ t (filter (waits_for b object) b.order) ∙ times_filter_is (waits_for b object) t b.order ∙ ap
+        (λ test. cond test (times t b.order) 0) waits in
     let one : 1 ≤ times t b.order = has.ranks t object waits in
     omega (arith, is, one)
 
@@ -242,7 +259,8 @@ no_places t [] none one = absurd (omega (arith, one))
 no_places t (x ∷ ids) none one = absurd (omega (arith, none))
 
 none_next : (left : ℕ) (order : Order) (object : ℕ) (b : Base) → HavePlaces b → (ids : List ℕ) → queue order b object ≡ ids → length ids ≤ suc left →
-    (t : ℕ) → ((c : Base) → HavePlaces c → length (queue order c object) ≤ left → waits_for (end_first left order object c) object t ≡ true → ⊥) → waits_for (end_first left order object (first_ended ids b)) object t ≡ true → ⊥
+    (t : ℕ) → ((c : Base) → HavePlaces c → length (queue order c object) ≤ left → waits_for (end_first left order object c) object t ≡ true → ⊥) → waits_for
+        (end_first left order object (first_ended ids b)) object t ≡ true → ⊥
 none_next left order object b has [] at few t rest waits = rest b has (subst (λ (ids : List ℕ). length ids ≤ left) (sym at) (omega arith)) waits
 none_next left order object b has (first ∷ ids) at few t rest waits =
     let result : Answer = plain (code_of er.Dlt) in
@@ -251,10 +269,12 @@ none_next left order object b has (first ∷ ids) at few t rest waits =
     let most : length (first ∷ ids) ≤ suc left = few in
     rest (release b first result) (places_kept.released b first result has) (subst (λ (ids : List ℕ). length ids ≤ left) (sym after) (omega (arith, shorter, most))) waits
 
-none_left : (left : ℕ) (order : Order) (object : ℕ) (b : Base) → HavePlaces b → length (queue order b object) ≤ left → (t : ℕ) → waits_for (end_first left order object b) object t ≡ true → ⊥
+none_left : (left : ℕ) (order : Order) (object : ℕ) (b : Base) → HavePlaces b → length (queue order b object) ≤ left → (t : ℕ) →
+    waits_for (end_first left order object b) object t ≡ true → ⊥
 unfolding end_first
 none_left zero order object b has few t waits = no_places t (queue order b object) few (stands_in order b t object has waits)
-none_left (suc left) order object b has few t waits = none_next left order object b has (queue order b object) refl few t (λ c places fewer on. none_left left order object c places fewer t on) waits
+none_left (suc left) order object b has few t waits = none_next left order object b has (queue order b object) refl few t
+    (λ c places fewer on. none_left left order object c places fewer t on) waits
 
 -- nobody waits for an object whose waits have all ended
 pub ended_idle : (order : Order) (object : ℕ) (b : Base) → HavePlaces b → IsIdle (end_waits order object b) object

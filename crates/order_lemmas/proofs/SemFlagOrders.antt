@@ -31,28 +31,33 @@ SemFlagRight o s b = AreRight (order_for (record o { sem_flags = s })) b
 abbrev DoneRight : Objects → SemFlagDone → Type 0
 DoneRight o done = SemFlagRight o done.table done.base
 
-checked_fits : (o : Objects) (checks : List Check) (b : Base) (effect : SemFlagDone) → SemFlagRight o o.sem_flags b → (first_error checks ≡ None → DoneRight o effect) → DoneRight o (sem_flag_checked checks b o.sem_flags effect)
+checked_fits : (o : Objects) (checks : List Check) (b : Base) (effect : SemFlagDone) → SemFlagRight o o.sem_flags b → (first_error checks ≡ None → DoneRight o effect) →
+    DoneRight o (sem_flag_checked checks b o.sem_flags effect)
 checked_fits o checks b effect all works = sem_flag_cases (DoneRight o) checks b o.sem_flags effect (λ code. all) works
 
 either_fits : (o : Objects) (test : Bool) (one other : SemFlagDone) → DoneRight o one → DoneRight o other → DoneRight o (cond {A = SemFlagDone} test one other)
 either_fits o true one other first second = first
 either_fits o false one other first second = second
 
-sem_deleted : (o : Objects) (b : Base) (id : ℕ) (slot : Option Semaphore) → sem_at o.sem_flags id ≡ slot → HavePlaces b → AreRight (order_for o) b → SemFlagRight o (with_sem o.sem_flags id None) (sem_waits_ended b id slot)
+sem_deleted : (o : Objects) (b : Base) (id : ℕ) (slot : Option Semaphore) → sem_at o.sem_flags id ≡ slot → HavePlaces b → AreRight (order_for o) b →
+    SemFlagRight o (with_sem o.sem_flags id None) (sem_waits_ended b id slot)
 sem_deleted o b id None at has all = sem_free o b id None (λ least. at) all
 sem_deleted o b id (Some k) at has all =
     sem_idle o (end_waits k.order (sem_object id) b) id None (ended_idle k.order (sem_object id) b has) (ended_fits (order_for o) k.order (sem_object id) b all)
 
-flag_deleted : (o : Objects) (b : Base) (id : ℕ) (slot : Option EventFlag) → flag_at o.sem_flags id ≡ slot → HavePlaces b → AreRight (order_for o) b → SemFlagRight o (with_flag o.sem_flags id None) (flag_waits_ended b id slot)
+flag_deleted : (o : Objects) (b : Base) (id : ℕ) (slot : Option EventFlag) → flag_at o.sem_flags id ≡ slot → HavePlaces b → AreRight (order_for o) b →
+    SemFlagRight o (with_flag o.sem_flags id None) (flag_waits_ended b id slot)
 flag_deleted o b id None at has all = flag_free o b id None (λ least. at) all
 flag_deleted o b id (Some k) at has all =
     flag_idle o (end_waits k.order (flag_object id) b) id None (ended_idle k.order (flag_object id) b has) (ended_fits (order_for o) k.order (flag_object id) b all)
 
 -- what a task asked for says nothing of the orders
-asked_fits : (o : Objects) (b : Base) (counts : List ℕ) (wishes : List FlagWish) → AreRight (order_for o) b → SemFlagRight o (record o.sem_flags { counts = counts; wishes = wishes }) b
+asked_fits : (o : Objects) (b : Base) (counts : List ℕ) (wishes : List FlagWish) → AreRight (order_for o) b →
+    SemFlagRight o (record o.sem_flags { counts = counts; wishes = wishes }) b
 asked_fits o b counts wishes all = right_same (order_for o) (order_for (record o { sem_flags = record o.sem_flags { counts = counts; wishes = wishes } })) b (λ object. refl) all
 
-sem_waited : (o : Objects) (b : Base) (t id n : ℕ) (timeout : ℤ) (slot : Option Semaphore) → sem_at o.sem_flags id ≡ slot → 1 ≤ id → id ≤ 64 → AreRight (order_for o) b → DoneRight o (waited_for_sem b o.sem_flags t id n timeout slot)
+sem_waited : (o : Objects) (b : Base) (t id n : ℕ) (timeout : ℤ) (slot : Option Semaphore) → sem_at o.sem_flags id ≡ slot → 1 ≤ id → id ≤ 64 → AreRight (order_for o) b →
+    DoneRight o (waited_for_sem b o.sem_flags t id n timeout slot)
 sem_waited o b t id n timeout None at least most all = all
 sem_waited o b t id n timeout (Some k) at least most all =
     either_fits o (serves_at_once b k id t n) _ _ (sem_same o b id k _ at refl all)
@@ -60,7 +65,8 @@ sem_waited o b t id n timeout (Some k) at least most all =
     (asked_fits o (make_wait b t (sem_object id) k.order timeout) (slice_set o.sem_flags.counts t n) o.sem_flags.wishes
     (wait_fits (order_for o) b t (sem_object id) k.order timeout (sem_named o id least most ∙ ap (option_map (λ k. k.order)) at) all)))
 
-flag_waited : (o : Objects) (b : Base) (t id : ℕ) (wish : FlagWish) (timeout : ℤ) (slot : Option EventFlag) → flag_at o.sem_flags id ≡ slot → 1 ≤ id → id ≤ 64 → AreRight (order_for o) b → DoneRight o (waited_for_flag b o.sem_flags t id wish timeout slot)
+flag_waited : (o : Objects) (b : Base) (t id : ℕ) (wish : FlagWish) (timeout : ℤ) (slot : Option EventFlag) → flag_at o.sem_flags id ≡ slot → 1 ≤ id → id ≤ 64 →
+    AreRight (order_for o) b → DoneRight o (waited_for_flag b o.sem_flags t id wish timeout slot)
 flag_waited o b t id wish timeout None at least most all = all
 flag_waited o b t id wish timeout (Some k) at least most all =
     either_fits o (has_bits k.pattern wish) _ _ (flag_same o b id k _ at refl all)
@@ -68,16 +74,19 @@ flag_waited o b t id wish timeout (Some k) at least most all =
     (asked_fits o (make_wait b t (flag_object id) k.order timeout) o.sem_flags.counts (slice_set o.sem_flags.wishes t wish)
     (wait_fits (order_for o) b t (flag_object id) k.order timeout (flag_named o id least most ∙ ap (option_map (λ k. k.order)) at) all)))
 
-sem_signalled : (o : Objects) (b : Base) (id n : ℕ) (slot : Option Semaphore) → sem_at o.sem_flags id ≡ slot → AreRight (order_for o) b → SemFlagRight o (signalled o.sem_flags id n slot) b
+sem_signalled : (o : Objects) (b : Base) (id n : ℕ) (slot : Option Semaphore) → sem_at o.sem_flags id ≡ slot → AreRight (order_for o) b →
+    SemFlagRight o (signalled o.sem_flags id n slot) b
 sem_signalled o b id n None at all = all
 sem_signalled o b id n (Some k) at all = sem_same o b id k _ at refl all
 
-flag_changed : (o : Objects) (b : Base) (id : ℕ) (change : ℕ → ℕ) (slot : Option EventFlag) → flag_at o.sem_flags id ≡ slot → AreRight (order_for o) b → SemFlagRight o (repatterned o.sem_flags id change slot) b
+flag_changed : (o : Objects) (b : Base) (id : ℕ) (change : ℕ → ℕ) (slot : Option EventFlag) → flag_at o.sem_flags id ≡ slot → AreRight (order_for o) b →
+    SemFlagRight o (repatterned o.sem_flags id change slot) b
 flag_changed o b id change None at all = all
 flag_changed o b id change (Some k) at all = flag_same o b id k _ at refl all
 
 -- every call on semaphores and event flags leaves the tasks that wait in order
-pub sem_flag_calls_fit : (o : Objects) (b : Base) (who : Who) (c : SemFlagCall) → HavePlaces b → AreRight (order_for o) b → SemFlagRight o (sem_flag_call b o.sem_flags who c).table (sem_flag_call b o.sem_flags who c).base
+pub sem_flag_calls_fit : (o : Objects) (b : Base) (who : Who) (c : SemFlagCall) → HavePlaces b → AreRight (order_for o) b →
+    SemFlagRight o (sem_flag_call b o.sem_flags who c).table (sem_flag_call b o.sem_flags who c).base
 unfolding sem_flag_call calls.create_sem calls.create_flag calls.delete_sem calls.delete_flag calls.signal_sem calls.set_flag calls.clear_flag calls.refer_sem calls.refer_flag calls.wait_sem calls.wait_flag
 sem_flag_calls_fit o b who (call.CreSem attributes count most) has all =
     checked_fits o (calls.create_sem_checks o.sem_flags attributes count most) b _ all
@@ -93,9 +102,11 @@ sem_flag_calls_fit o b who (call.CreFlg attributes pattern) has all =
     checked_fits o (calls.create_flag_checks o.sem_flags attributes) b _ all
     (λ none. flag_made o b (Some (record { order = calls.order_of attributes; many = attributes.ta_wmul; pattern = cast_unsigned w32 pattern })) all)
 sem_flag_calls_fit o b who (call.SetFlg id pattern) has all =
-    checked_fits o (object_checks id (has_flag o.sem_flags id) []) b _ all (λ none. flag_changed o b (natural id) (λ old. bit_or old (cast_unsigned w32 pattern)) (flag_at o.sem_flags (natural id)) refl all)
+    checked_fits o (object_checks id (has_flag o.sem_flags id) []) b _ all (λ none. flag_changed o b (natural id) (λ old. bit_or old (cast_unsigned w32 pattern))
+        (flag_at o.sem_flags (natural id)) refl all)
 sem_flag_calls_fit o b who (call.ClrFlg id pattern) has all =
-    checked_fits o (object_checks id (has_flag o.sem_flags id) []) b _ all (λ none. flag_changed o b (natural id) (λ old. bit_and old (cast_unsigned w32 pattern)) (flag_at o.sem_flags (natural id)) refl all)
+    checked_fits o (object_checks id (has_flag o.sem_flags id) []) b _ all (λ none. flag_changed o b (natural id) (λ old. bit_and old (cast_unsigned w32 pattern))
+        (flag_at o.sem_flags (natural id)) refl all)
 sem_flag_calls_fit o b who (call.WaiFlg id bits mode timeout) has all =
     checked_fits o (calls.wait_flag_checks b o.sem_flags who id bits mode timeout) b _ all
     (λ none. let known = known_id 64 id (holds_at 0 (calls.wait_flag_checks b o.sem_flags who id bits mode timeout) none) in

@@ -27,11 +27,13 @@ use Rattle.order_lemmas.proofs.Rights.{AreRight, Orders}
 
 -- ---- time
 
-refused_fits : (orders : Orders) (error : Option Er) (b : Base) (c : Clocks) (effect : TimeDone) → AreRight orders b → AreRight orders effect.base → AreRight orders (time_refused error b c effect).base
+refused_fits : (orders : Orders) (error : Option Er) (b : Base) (c : Clocks) (effect : TimeDone) → AreRight orders b → AreRight orders effect.base →
+    AreRight orders (time_refused error b c effect).base
 refused_fits orders (Some error) b c effect all works = all
 refused_fits orders None b c effect all works = works
 
-checked_fits : (orders : Orders) (checks : List Check) (b : Base) (c : Clocks) (effect : TimeDone) → AreRight orders b → AreRight orders effect.base → AreRight orders (time_checked checks b c effect).base
+checked_fits : (orders : Orders) (checks : List Check) (b : Base) (c : Clocks) (effect : TimeDone) → AreRight orders b → AreRight orders effect.base →
+    AreRight orders (time_checked checks b c effect).base
 checked_fits orders checks b c effect all works = refused_fits orders (first_error checks) b c effect all works
 
 either_fits : (orders : Orders) (test : Bool) (one other : Base) → AreRight orders one → AreRight orders other → AreRight orders (cond test one other)
@@ -61,8 +63,10 @@ time_calls_fit orders b c (call.SetTim high low) all = checked_fits orders ((int
 time_calls_fit orders b c call.GetTim all = all
 time_calls_fit orders b c call.GetOtm all = all
 time_calls_fit orders b c (call.CreCyc attributes body period phase) all =
-    checked_fits orders (calls.create_cyclic_checks c attributes period phase) b c _ all (either_fits orders attributes.ta_sta (set_for b (b.time + natural phase + 1) (Cyclic (free_cyclic c))) b all all)
-time_calls_fit orders b c (call.StaCyc id) all = checked_fits orders (object_checks id (has_cyc c (natural id)) []) b c _ all (started_fits orders b (natural id) (cyclic_at c (natural id)) all)
+    checked_fits orders (calls.create_cyclic_checks c attributes period phase) b c _ all (either_fits orders attributes.ta_sta
+        (set_for b (b.time + natural phase + 1) (Cyclic (free_cyclic c))) b all all)
+time_calls_fit orders b c (call.StaCyc id) all = checked_fits orders (object_checks id (has_cyc c (natural id)) []) b c _ all
+    (started_fits orders b (natural id) (cyclic_at c (natural id)) all)
 time_calls_fit orders b c (call.StpCyc id) all = checked_fits orders (object_checks id (has_cyc c (natural id)) []) b c _ all all
 time_calls_fit orders b c (call.DelCyc id) all = checked_fits orders (object_checks id (has_cyc c (natural id)) []) b c _ all all
 time_calls_fit orders b c (call.RefCyc id) all = checked_fits orders (object_checks id (has_cyc c (natural id)) []) b c _ all all
@@ -74,11 +78,13 @@ time_calls_fit orders b c (call.RefAlm id) all = checked_fits orders (object_che
 
 -- ---- contexts
 
-refused_beside : (orders : Orders) (error : Option Er) (b : Base) (c : Contexts) (effect : ContextDone) → AreRight orders b → AreRight orders effect.base → AreRight orders (context_refused error b c effect).base
+refused_beside : (orders : Orders) (error : Option Er) (b : Base) (c : Contexts) (effect : ContextDone) → AreRight orders b → AreRight orders effect.base →
+    AreRight orders (context_refused error b c effect).base
 refused_beside orders (Some error) b c effect all works = all
 refused_beside orders None b c effect all works = works
 
-checked_beside : (orders : Orders) (checks : List Check) (b : Base) (c : Contexts) (effect : ContextDone) → AreRight orders b → AreRight orders effect.base → AreRight orders (context_checked checks b c effect).base
+checked_beside : (orders : Orders) (checks : List Check) (b : Base) (c : Contexts) (effect : ContextDone) → AreRight orders b → AreRight orders effect.base →
+    AreRight orders (context_checked checks b c effect).base
 checked_beside orders checks b c effect all works = refused_beside orders (first_error checks) b c effect all works
 
 -- every call on contexts
