@@ -220,7 +220,7 @@ close_fits o p who descriptor has =
 -- ---- suspension
 
 -- the events of a suspension
-pub events_fit : (o : Objects) (p : DevParts) → DevRight o p → DevRight o (events_sent p)
+events_fit : (o : Objects) (p : DevParts) → DevRight o p → DevRight o (events_sent p)
 events_fit o p has =
     let sending = events_sending p in
     record {

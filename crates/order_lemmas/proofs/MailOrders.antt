@@ -110,7 +110,7 @@ stored_fits o true q all = all
 stored_fits o false q all = tt
 
 -- a message that needn't wait
-pub at_once_fits : (o : Objects) (b : Base) (memory : List ℕ) (id : ℕ) (k : MessageBuffer) (first : Bool) (receiver : Option ℕ) (messages : List (List ℕ)) (bytes : List ℕ) →
+at_once_fits : (o : Objects) (b : Base) (memory : List ℕ) (id : ℕ) (k : MessageBuffer) (first : Bool) (receiver : Option ℕ) (messages : List (List ℕ)) (bytes : List ℕ) →
     buffer_at o.mails id ≡ Some k → AreRight (order_for o) b →
     SentRight o (sent_at_once (parts o b memory) id k first receiver messages bytes)
 at_once_fits o b memory id k false receiver messages bytes at all = tt

@@ -51,7 +51,7 @@ freed_slot o b id None at all = mutex_free o b id None (λ least. at) all
 freed_slot o b id (Some k) at all = mutex_same o b id k (record k { owner = 0 }) at refl all
 
 -- a mutex is free again
-pub freed_fits : (o : Objects) (b : Base) (id : ℕ) → AreRight (order_for o) b → MutexRight o (freed o.mutexes id) b
+freed_fits : (o : Objects) (b : Base) (id : ℕ) → AreRight (order_for o) b → MutexRight o (freed o.mutexes id) b
 freed_fits o b id all =
     right_same (order_for (record o { mutexes = with_mutex o.mutexes id (option_map {T = Mutex} (λ k. record k { owner = 0 }) (mutex_at o.mutexes id)) }))
         (order_for (record o { mutexes = freed o.mutexes id })) b (λ object. refl)

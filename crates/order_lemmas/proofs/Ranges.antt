@@ -18,7 +18,7 @@ use Rattle.kernel_lemmas.proofs.Tables.{entry_each}
 -- ---- ranges
 
 -- where two tests hold together, each does
-pub both_true : (a b : Bool) → (a && b) ≡ true → (a ≡ true) × (b ≡ true)
+both_true : (a b : Bool) → (a && b) ≡ true → (a ≡ true) × (b ≡ true)
 both_true true b both = (refl, both)
 both_true false b both = absurd (cc both)
 
@@ -53,7 +53,7 @@ first_false true b is = absurd (cc is)
 first_false false b is = refl
 
 -- and is below its end
-pub range_most : (low high object : ℕ) → in_range low high object ≡ true → object + 1 ≤ high
+range_most : (low high object : ℕ) → in_range low high object ≡ true → object + 1 ≤ high
 range_most low high object is = let parts = both_true (nat_le low object) (nat_lt object high) is in let most : nat_lt object high ≡ true = parts.1 in grind
     (arith, nat_tests, most)
 

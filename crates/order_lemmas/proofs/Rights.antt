@@ -44,7 +44,7 @@ abbrev pub IsApart : Orders → Orders → Base → Type 0
 IsApart orders now b = (object : ℕ) → (now object ≡ orders object) ⊎ IsIdle b object
 
 -- a test that cannot be true is false
-pub refuted : (test : Bool) → (test ≡ true → ⊥) → test ≡ false
+refuted : (test : Bool) → (test ≡ true → ⊥) → test ≡ false
 refuted true denied = absurd (denied refl)
 refuted false denied = refl
 
@@ -212,7 +212,7 @@ waited_before b u t object result waits =
     ap (waiting_in object) (sym (release_others b t u result (still_waits b u t object result waits))) ∙ waits
 
 -- nobody waits for an object that nobody waited for, once a wait has ended
-pub idle_release : (b : Base) (t object : ℕ) (result : Answer) → IsIdle b object → IsIdle (release b t result) object
+idle_release : (b : Base) (t object : ℕ) (result : Answer) → IsIdle b object → IsIdle (release b t result) object
 idle_release b t object result idle = λ u. refuted (waits_for (release b t result) object u)
     (λ on. let before = waited_before b u t object result on in let none = idle u in absurd (cc (before, none)))
 
