@@ -1,5 +1,5 @@
 -- What every move of the base keeps, every event keeps: it is enough to look at the moves.
-use Rattle.std.proofs.Common.{◌≡◌, suc, ◌≤◌, length, List, [], ◌∷◌, Option, Some, None, refl, ap, subst, arith}
+use Rattle.std.proofs.Common.{◌≡◌, ℕ, suc, ◌≤◌, length, List, [], ◌∷◌, Option, Some, None, refl, ap, subst, arith}
 use Rattle.std.specs.Prelude.{map}
 use Rattle.tk_types.specs.declared.run.Mode.TheVariants as modes
 use Rattle.tk_types.specs.declared.script.Script.{Script}
@@ -24,6 +24,7 @@ use Rattle.call_walk.proofs.TaskCalls.{task_calls_keep}
 use Rattle.call_walk.proofs.TimeCalls.{again_keeps, time_calls_keep}
 use Rattle.machine_lemmas.proofs.Changes.{Survives}
 use Rattle.machine_lemmas.proofs.FewDevices.{few_arrivals, few_moves}
+use Rattle.machine_lemmas.proofs.KnownDevices.{IsWished}
 use Rattle.machine_lemmas.proofs.Servings.{FewDevices, serving}
 use Rattle.machine_lemmas.proofs.Settling.{few_handed, few_served}
 use Rattle.machine_lemmas.proofs.Walk.{IsKept}
@@ -33,10 +34,10 @@ pub record BaseHas (P : Base → Type 0) (p : Parts) : Type 0 where
   pub base : P p.base
   pub few : FewDevices p
 
-survives : (P : Base → Type 0) → IsBaseProof P → Survives P
-survives P moves = record {
+survives : (P : Base → Type 0) → IsBaseProof P → (may : ℕ → Type 0) → Survives may P
+survives P moves may = record {
   released = λ b t object answer above waits has. moves.released b t answer has;
-  moved = λ b t d dd least most waits has. moves.moved b t _ _ has;
+  moved = λ b t d dd least most moved waits has. moves.moved b t _ _ has;
   given = λ b n has. moves.given b n has;
 }
 
@@ -66,7 +67,7 @@ base_kept P moves = record {
   freed = λ p t m is has. record { base = has.base; few = has.few };
   deleted = λ p t has. record { base = moves.deleted p.base t has.base; few = has.few };
   refreshed = λ p t priority has. record { base = moves.refreshed p.base t priority has.base; few = has.few };
-  served = λ p q few is has. record { base = (serving p q few is).ends.keeps P (survives P moves) has.base; few = few_served p q few is };
+  served = λ p q few is has. record { base = (serving p q few is).ends.keeps P (survives P moves (IsWished p.objects.devices)) has.base; few = few_served p q few is };
   handed = has_handed P;
   handed_first = λ p has. record { base = has.base; few = devices.hand_first_keeps (λ dv. length dv.links ≤ 9) few_moves p.objects.devices has.few };
   arrived = λ p e q is has. record {

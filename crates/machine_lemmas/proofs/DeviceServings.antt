@@ -24,12 +24,14 @@ use Rattle.device_model.specs.Devices.Requests.{accept, acceptance_object, accep
 use Rattle.device_model.specs.Devices.Suspension.{after_post, event_bytes, event_sent, events_sent, mail_parts}
 use Rattle.device_model.specs.Devices.Servings.{acceptance_by, admitted, admitted_if, admitted_wish, after_acceptance, close_by, closed_unless, ending_claimed, ending_of_first, is_with_driver, serve_acceptance, serve_acceptances, serve_close, serve_closes, serve_ending, serve_endings, serve_suspension, suspended_unless, suspension_by}
 use Rattle.machine_lemmas.proofs.Changes.{IsChange, IsEnding, change_then, ends_then, one_ends, one_moves, releasing, unchanged}
+use Rattle.machine_lemmas.proofs.KnownDevices.{AreKnown, IsBeside, IsWished, accepted_beside, beside_known, dropped_beside, open_known, wish_known}
 use Rattle.machine_lemmas.proofs.Finding.{first_from, first_waits, found_waits}
 use Rattle.machine_lemmas.proofs.ObjectServings.{buffers_order, first_in_queue}
 
 -- a wait ends or moves, and the queues of mailboxes and message buffers keep their orders
 pub record IsDevServing (p q : DevParts) : Type 1 where
-  pub ends : IsEnding p.base q.base
+  pub ends : IsEnding (IsWished p.table) p.base q.base
+  pub known : AreKnown p.table → AreKnown q.table
   pub links : q.table.links ≡ p.table.links
   pub orders : (object : ℕ) → mail_order q.mails object ≡ mail_order p.mails object
 
@@ -64,60 +66,68 @@ pub record Leaves (p q : DevParts) : Type 0 where
   pub base : q.base ≡ p.base
   pub mails : q.mails ≡ p.mails
   pub links : q.table.links ≡ p.table.links
+  pub beside : IsBeside p.table q.table
 
 leaves_if : (p a b : DevParts) (test : Bool) → Leaves p a → Leaves p b → Leaves p (cond test a b)
 leaves_if p a b true first second = first
 leaves_if p a b false first second = second
 
+set_beside : (dv : Devices) (d buffer id : ℕ) (row : Row) → IsBeside dv (accepted (with_buffer dv d buffer) id row)
+set_beside dv d buffer id row = let is = accepted_beside (with_buffer dv d buffer) id row in record { opened = is.opened; wishes = is.wishes }
+
 event_leaves : (p : DevParts) (d id : ℕ) (transfer : Transfer) → Leaves p (accept_event p d id transfer)
 event_leaves p d id transfer =
-    leaves_if p _ _ (transfer.size == 0) (record { base = refl; mails = refl; links = accepted_links p.table id _ })
+    leaves_if p _ _ (transfer.size == 0) (record { base = refl; mails = refl; links = accepted_links p.table id _; beside = accepted_beside p.table id _ })
     (leaves_if p _ _ (transfer.size == buffer_size)
     (leaves_if p _ _ transfer.write
     (leaves_if p _ _ (may_be_buffer p (number_of (read_bytes buffer_size transfer.address p.memory)))
-    (record { base = refl; mails = refl; links = accepted_links (with_buffer p.table d (number_of (read_bytes buffer_size transfer.address p.memory))) id _ })
-    (record { base = refl; mails = refl; links = accepted_links p.table id _ }))
-    (record { base = refl; mails = refl; links = accepted_links p.table id _ }))
-    (record { base = refl; mails = refl; links = accepted_links p.table id _ }))
+    (record { base = refl; mails = refl; links = accepted_links (with_buffer p.table d (number_of (read_bytes buffer_size transfer.address p.memory))) id _; beside = set_beside p.table d (number_of (read_bytes buffer_size transfer.address p.memory)) id _ })
+    (record { base = refl; mails = refl; links = accepted_links p.table id _; beside = accepted_beside p.table id _ }))
+    (record { base = refl; mails = refl; links = accepted_links p.table id _; beside = accepted_beside p.table id _ }))
+    (record { base = refl; mails = refl; links = accepted_links p.table id _; beside = accepted_beside p.table id _ }))
 
 from_leaves : (start : Option ℕ) (p : DevParts) (d id : ℕ) (transfer : Transfer) → Leaves p (accept_from start p d id transfer)
 from_leaves None p d id transfer = event_leaves p d id transfer
-from_leaves (Some start) p d id transfer = record { base = refl; mails = refl; links = accepted_links p.table id _ }
+from_leaves (Some start) p d id transfer = record { base = refl; mails = refl; links = accepted_links p.table id _; beside = accepted_beside p.table id _ }
 
 pub accept_leaves : (p : DevParts) (d id : ℕ) (transfer : Transfer) → Leaves p (accept p d id transfer)
 unfolding accept
 accept_leaves p d id transfer = from_leaves transfer.start p d id transfer
 
 -- an acceptance ends the wait, or moves it to that for the ending
-accepted_serving : (p q : DevParts) (d t dd id serial : ℕ) (stays : Bool) → 1 ≤ d → d ≤ 8 → waits_for p.base (acceptance_object d) t ≡ true → Leaves p q → IsDevServing p (after_acceptance q t dd id serial stays)
-accepted_serving p q d t dd id serial true least most waits leaves = record {
+accepted_serving : (p q : DevParts) (d t dd id serial : ℕ) (stays : Bool) → 1 ≤ d → d ≤ 8 → IsWished p.table dd → waits_for p.base (acceptance_object d) t ≡ true → Leaves p q → IsDevServing p (after_acceptance q t dd id serial stays)
+accepted_serving p q d t dd id serial true least most moves waits leaves = record {
   links = leaves.links;
-  ends = subst (λ (b : Base). IsEnding p.base (move_wait b t (ending_object dd) Fifo)) (sym leaves.base) (one_moves p.base t d dd least most waits);
+  known = λ known. wish_known q.table t (wish.Ending id serial true) tt (beside_known p.table q.table leaves.beside known);
+  ends = subst (λ (b : Base). IsEnding (IsWished p.table) p.base (move_wait b t (ending_object dd) Fifo)) (sym leaves.base) (one_moves p.base t d dd least most moves waits);
   orders = λ object. ap (λ mails. mail_order mails object) leaves.mails;
 }
-accepted_serving p q d t dd id serial false least most waits leaves = record {
+accepted_serving p q d t dd id serial false least most moves waits leaves = record {
   links = leaves.links;
-  ends = subst (λ (b : Base). IsEnding p.base (release b t (plain (pos id)))) (sym leaves.base) (one_ends p.base t (acceptance_object d) (plain (pos id)) (omega arith) waits);
+  known = beside_known p.table q.table leaves.beside;
+  ends = subst (λ (b : Base). IsEnding (IsWished p.table) p.base (release b t (plain (pos id)))) (sym leaves.base) (one_ends p.base t (acceptance_object d) (plain (pos id)) (omega arith) waits);
   orders = λ object. ap (λ mails. mail_order mails object) leaves.mails;
 }
 
-admitted_serving : (p : DevParts) (d t : ℕ) (transfer : Transfer) (stays : Bool) (id : ℕ) → 1 ≤ d → d ≤ 8 → waits_for p.base (acceptance_object d) t ≡ true → IsDevServing p (admitted p d t transfer stays id)
-admitted_serving p d t transfer stays zero least most waits = record {
+admitted_serving : (p : DevParts) (d t : ℕ) (transfer : Transfer) (stays : Bool) (id : ℕ) → 1 ≤ d → d ≤ 8 → IsWished p.table transfer.descriptor → waits_for p.base (acceptance_object d) t ≡ true → IsDevServing p (admitted p d t transfer stays id)
+admitted_serving p d t transfer stays zero least most moves waits = record {
+  known = λ known. known;
   links = refl;
   ends = one_ends p.base t (acceptance_object d) (plain (code_of er.Limit)) (omega arith) waits;
   orders = λ object. refl;
 }
-admitted_serving p d t transfer stays (suc id) least most waits =
-    accepted_serving p (accept p d (suc id) transfer) d t transfer.descriptor (suc id) p.table.serial stays least most waits (accept_leaves p d (suc id) transfer)
+admitted_serving p d t transfer stays (suc id) least most moves waits =
+    accepted_serving p (accept p d (suc id) transfer) d t transfer.descriptor (suc id) p.table.serial stays least most moves waits (accept_leaves p d (suc id) transfer)
 
-wish_serving : (p : DevParts) (d t : ℕ) (q : DevParts) (asked : Wish) → 1 ≤ d → d ≤ 8 → waits_for p.base (acceptance_object d) t ≡ true → admitted_wish p d t asked ≡ Some q → IsDevServing p q
-wish_serving p d t q (wish.Acceptance transfer stays) least most waits is = dev_parts_of p _ q is (admitted_serving p d t transfer stays (free_request p.table) least most waits)
-wish_serving p d t q wish.Nothing least most waits is = absurd (cc is)
-wish_serving p d t q (wish.Ending request serial own) least most waits is = absurd (cc is)
-wish_serving p d t q wish.AnyEnding least most waits is = absurd (cc is)
+wish_serving : (p : DevParts) (d t : ℕ) (q : DevParts) (asked : Wish) → wish_of p.table t ≡ asked → 1 ≤ d → d ≤ 8 → waits_for p.base (acceptance_object d) t ≡ true → admitted_wish p d t asked ≡ Some q → IsDevServing p q
+wish_serving p d t q (wish.Acceptance transfer stays) at least most waits is =
+    dev_parts_of p _ q is (admitted_serving p d t transfer stays (free_request p.table) least most (record { task = t; transfer = transfer; stays = stays; at = at; same = refl }) waits)
+wish_serving p d t q wish.Nothing at least most waits is = absurd (cc is)
+wish_serving p d t q (wish.Ending request serial own) at least most waits is = absurd (cc is)
+wish_serving p d t q wish.AnyEnding at least most waits is = absurd (cc is)
 
 place_serving : (place : Bool) (p : DevParts) (d t : ℕ) (q : DevParts) → 1 ≤ d → d ≤ 8 → waits_for p.base (acceptance_object d) t ≡ true → admitted_if place p d t ≡ Some q → IsDevServing p q
-place_serving true p d t q least most waits is = wish_serving p d t q (wish_of p.table t) least most waits is
+place_serving true p d t q least most waits is = wish_serving p d t q (wish_of p.table t) refl least most waits is
 place_serving false p d t q least most waits is = absurd (cc is)
 
 by_serving : (p : DevParts) (d : ℕ) (q : DevParts) (waiters : List ℕ) → 1 ≤ d → d ≤ 8 → fifo_queue p.base (acceptance_object d) ≡ waiters → acceptance_by p d waiters ≡ Some q → IsDevServing p q
@@ -146,6 +156,7 @@ claimed_serving : (p : DevParts) (dd t : ℕ) (q : DevParts) (picked_id : Option
 claimed_serving p dd t q None waits is = absurd (cc is)
 claimed_serving p dd t q (Some id) waits is = dev_parts_of p _ q is (record {
   links = dropped_links p.table id;
+  known = beside_known p.table (dropped p.table id) (dropped_beside p.table id);
   ends = one_ends p.base t (ending_object dd) _ (omega arith) waits;
   orders = λ object. refl;
 })
@@ -168,6 +179,7 @@ endings_serving p q is = let from = first_from (serve_ending p) q (drop 1 p.tabl
 closed_serving : (with_driver : Bool) (p : DevParts) (dd t : ℕ) (q : DevParts) → waits_for p.base (close_object dd) t ≡ true → closed_unless with_driver p dd t ≡ Some q → IsDevServing p q
 closed_serving true p dd t q waits is = absurd (cc is)
 closed_serving false p dd t q waits is = dev_parts_of p _ q is (record {
+  known = open_known p.table dd None tt;
   links = refl;
   ends = one_ends p.base t (close_object dd) _ (omega arith) waits;
   orders = λ object. refl;
@@ -263,6 +275,7 @@ suspended_serving false p t q waits is =
     let sending = events_sending ended in
     dev_parts_of p (events_sent ended) q is (record {
       links = ap (λ (dv : Devices). dv.links) sending.table;
+      known = subst AreKnown (sym sending.table);
       ends = ends_then p.base (events_sent ended).base t suspension_object (plain (pos p.table.off)) (omega arith) waits sending.changes;
       orders = sending.orders;
     })

@@ -1,4 +1,5 @@
 pub mod Weights
+pub mod KnownDevices
 pub mod Changes
 pub mod Finding
 pub mod ObjectServings

@@ -26,14 +26,14 @@ use Rattle.object_model.specs.Pools.Variable.{block_given, place_in, serve_varia
 use Rattle.object_model.specs.Pools.Orders.{pool_order}
 use Rattle.tk_types.specs.declared.answer.Answer.{Answer}
 use Rattle.call_lemmas.proofs.Serving.{sem_served_waits, flag_served_waits}
-use Rattle.machine_lemmas.proofs.Changes.{IsChange, IsEnding, ends_then, giving, one_ends, releasing}
+use Rattle.machine_lemmas.proofs.Changes.{IsChange, IsEnding, ends_then, giving, no_moves, one_ends, releasing}
 use Rattle.machine_lemmas.proofs.Finding.{choice_same, first_from, first_waits, order_written, waits_on}
 
 -- ---- semaphores and event flags
 
 -- a wait ends, and the queues of semaphores and flags keep their orders
 pub record IsSemFlagServing (b : Base) (s : SemFlags) (parts : SemFlagParts) : Type 1 where
-  pub ends : IsEnding b parts.base
+  pub ends : IsEnding no_moves b parts.base
   pub orders : (object : ℕ) → sem_flag_order parts.table object ≡ sem_flag_order s object
 
 sem_flag_parts : (b : Base) (s : SemFlags) (left parts : SemFlagParts) → Some left ≡ Some parts → IsSemFlagServing b s left → IsSemFlagServing b s parts
@@ -96,7 +96,7 @@ sem_flag_serving b s parts is =
 -- ---- mutexes
 
 pub record IsMutexServing (b : Base) (m : Mutexes) (parts : MutexParts) : Type 1 where
-  pub ends : IsEnding b parts.base
+  pub ends : IsEnding no_moves b parts.base
   pub orders : (object : ℕ) → mutex_order parts.table object ≡ mutex_order m object
 
 mutex_parts : (b : Base) (m : Mutexes) (left parts : MutexParts) → Some left ≡ Some parts → IsMutexServing b m left → IsMutexServing b m parts
@@ -128,7 +128,7 @@ mutexes_serving b m parts is = let from = first_from (serve_mutex b m) parts (dr
 -- ---- mailboxes
 
 pub record IsMailServing (p q : MailParts) : Type 1 where
-  pub ends : IsEnding p.base q.base
+  pub ends : IsEnding no_moves p.base q.base
   pub orders : (object : ℕ) → mail_order q.table object ≡ mail_order p.table object
 
 mail_parts_of : (p left q : MailParts) → Some left ≡ Some q → IsMailServing p left → IsMailServing p q
@@ -215,7 +215,7 @@ buffers_serving p q is = let from = first_from (serve_buffer p) q (drop 1 p.tabl
 -- ---- pools
 
 pub record IsPoolServing (p q : PoolParts) : Type 1 where
-  pub ends : IsEnding p.base q.base
+  pub ends : IsEnding no_moves p.base q.base
   pub orders : (object : ℕ) → pool_order q.table object ≡ pool_order p.table object
 
 pool_parts_of : (p left q : PoolParts) → Some left ≡ Some q → IsPoolServing p left → IsPoolServing p q

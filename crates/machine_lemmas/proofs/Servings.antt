@@ -17,14 +17,16 @@ use Rattle.object_model.specs.Pools.Orders.{pool_order}
 use Rattle.device_model.specs.Devices.Endings.{DevParts}
 use Rattle.machine_model.specs.States.Objects.{Objects, Parts, dev_parts, first_serving, kinds, mail_parts, pool_parts, serve_object, with_devices, with_mails, with_mutexes, with_pools, with_sem_flags}
 use Rattle.machine_model.specs.States.Waits.{order_for, or_order}
-use Rattle.machine_lemmas.proofs.Changes.{IsEnding}
+use Rattle.machine_lemmas.proofs.Changes.{IsEnding, may_move}
+use Rattle.machine_lemmas.proofs.KnownDevices.{AreKnown, IsWished}
 use Rattle.machine_lemmas.proofs.DeviceServings.{IsDevServing, acceptances_serving, closes_serving, endings_serving, suspension_serving}
 use Rattle.machine_lemmas.proofs.Finding.{choice_same}
 use Rattle.machine_lemmas.proofs.ObjectServings.{IsMailServing, IsMutexServing, IsPoolServing, IsSemFlagServing, boxes_serving, buffers_serving, fixed_pools_serving, mutexes_serving, sem_flag_serving, variable_pools_serving}
 
 -- a wait ends or moves; queues keep their orders, and devices their number
 pub record IsServing (p q : Parts) : Type 1 where
-  pub ends : IsEnding p.base q.base
+  pub ends : IsEnding (IsWished p.objects.devices) p.base q.base
+  pub known : AreKnown p.objects.devices → AreKnown q.objects.devices
   pub orders : (object : ℕ) → order_for q.objects object ≡ order_for p.objects object
   pub links : q.objects.devices.links ≡ p.objects.devices.links
 
@@ -50,28 +52,32 @@ mapped p q put (Some left) is serving = let e : put left ≡ q = cc is in subst 
 
 of_sem_flags : (p : Parts) (left : SemFlagParts) → IsSemFlagServing p.base p.objects.sem_flags left → IsServing p (with_sem_flags p left)
 of_sem_flags p left is = record {
-  ends = is.ends;
+  ends = may_move (IsWished p.objects.devices) p.base left.base is.ends;
+  known = λ known. known;
   orders = orders_of p.objects (with_sem_flags p left).objects is.orders (same_order mutex_order p.objects.mutexes) (same_order mail_order p.objects.mails) (same_order pool_order p.objects.pools);
   links = refl;
 }
 
 of_mutexes : (p : Parts) (left : MutexParts) → IsMutexServing p.base p.objects.mutexes left → IsServing p (with_mutexes p left)
 of_mutexes p left is = record {
-  ends = is.ends;
+  ends = may_move (IsWished p.objects.devices) p.base left.base is.ends;
+  known = λ known. known;
   orders = orders_of p.objects (with_mutexes p left).objects (same_order sem_flag_order p.objects.sem_flags) is.orders (same_order mail_order p.objects.mails) (same_order pool_order p.objects.pools);
   links = refl;
 }
 
 of_mails : (p : Parts) (left : MailParts) → IsMailServing (mail_parts p) left → IsServing p (with_mails p left)
 of_mails p left is = record {
-  ends = is.ends;
+  ends = may_move (IsWished p.objects.devices) p.base left.base is.ends;
+  known = λ known. known;
   orders = orders_of p.objects (with_mails p left).objects (same_order sem_flag_order p.objects.sem_flags) (same_order mutex_order p.objects.mutexes) is.orders (same_order pool_order p.objects.pools);
   links = refl;
 }
 
 of_pools : (p : Parts) (left : PoolParts) → IsPoolServing (pool_parts p) left → IsServing p (with_pools p left)
 of_pools p left is = record {
-  ends = is.ends;
+  ends = may_move (IsWished p.objects.devices) p.base left.base is.ends;
+  known = λ known. known;
   orders = orders_of p.objects (with_pools p left).objects (same_order sem_flag_order p.objects.sem_flags) (same_order mutex_order p.objects.mutexes) (same_order mail_order p.objects.mails) is.orders;
   links = refl;
 }
@@ -79,6 +85,7 @@ of_pools p left is = record {
 of_devices : (p : Parts) (left : DevParts) → IsDevServing (dev_parts p) left → IsServing p (with_devices p left)
 of_devices p left is = record {
   ends = is.ends;
+  known = is.known;
   orders = orders_of p.objects (with_devices p left).objects (same_order sem_flag_order p.objects.sem_flags) (same_order mutex_order p.objects.mutexes) is.orders (same_order pool_order p.objects.pools);
   links = is.links;
 }

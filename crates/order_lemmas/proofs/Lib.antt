@@ -1,0 +1,12 @@
+pub mod Rights
+pub mod Ranges
+pub mod Written
+pub mod TaskOrders
+pub mod MutexOrders
+pub mod SemFlagOrders
+pub mod PoolOrders
+pub mod MailOrders
+pub mod DeviceOrders
+pub mod TimeContexts
+pub mod Moves
+pub mod ReachedOrders
