@@ -17,3 +17,4 @@ pub mod Pending
 pub mod KeptOnce
 pub mod BaseKept
 pub mod ReachedRest
+pub mod TickReached
