@@ -18,3 +18,6 @@ pub mod KeptOnce
 pub mod BaseKept
 pub mod ReachedRest
 pub mod TickReached
+pub mod TickClocks
+pub mod TickWalk
+pub mod TickTakes
