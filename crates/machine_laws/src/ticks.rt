@@ -1,15 +1,18 @@
 //! Laws on what is set for a time, and on what ticks do, each the contract of a function that does nothing.
 
-ghost use Rattle.std.specs.Prelude.{◌≡◌, ℕ, ◌+◌, ◌≤◌, List, length};
+ghost use Rattle.std.specs.Prelude.{◌≡◌, ℕ, ◌+◌, ◌<◌, ◌≤◌, false, true, List, length, ◌⊎◌, Some};
 ghost use Rattle.tk_types.specs.declared.run.Mode.{Mode};
 ghost use Rattle.tk_types.specs.declared.script.Script.{Script};
 ghost use Rattle.tk_types.specs.declared.task.DueEvent.{DueEvent};
 ghost use Rattle.context_model.specs.Clocks.Phases.{ArePeriodic};
 ghost use Rattle.kernel_model.specs.Bodies.Statements.{IsRunnable};
 ghost use Rattle.kernel_model.specs.LawWords.Once.{IsOnce};
-ghost use Rattle.kernel_model.specs.LawWords.TimeOrder.{AreInTimeOrder, AreLater};
+ghost use Rattle.kernel_model.specs.LawWords.TimeOrder.{AreInTimeOrder, AreLater, ComesAfter};
+ghost use Rattle.kernel_model.specs.Tasks.Base.{is_waiting, waits_for};
 ghost use Rattle.kernel_model.specs.Tasks.Waits.{HavePlaces};
-ghost use Rattle.kernel_model.specs.Words.Events.{insert_event};
+ghost use Rattle.kernel_model.specs.Words.Events.{insert_event, limit_of};
+ghost use Rattle.device_model.specs.Devices.Requests.{acceptance_object};
+ghost use Rattle.machine_lemmas.specs.TickTimes.{HasMoved};
 ghost use Rattle.machine_model.specs.Events.Ticks.{tick_state};
 ghost use Rattle.machine_model.specs.Runs.Reached.{Move, state_after};
 ghost use Rattle.machine_model.specs.States.State.{State};
@@ -44,4 +47,29 @@ pub fn events_fall_due_in_order()
         ArePeriodic (state_after script mode budget moves).objects.clocks }
     ensures reached { (script : Script) (mode : Mode) (budget : ℕ) (moves : List Move) → IsRunnable script →
         AreLater ((state_after script mode budget moves).base.time + 1) (tick_state mode (state_after script mode budget moves)).base.events }
+{}
+
+/// A tick ends the waits whose time has come, and otherwise only those that are served. One that makes an earlier time than that of
+/// a wait's end, and every tick where a wait has no limit, leaves it set and its task waiting where the wait is for an object below
+/// 64, as a sleep or a delay is; whatever the wait is for, it leaves its limit and whether the task waits, or the wait is over, or
+/// it was for the acceptance of a request and is for its ending now, without a limit. A tick that makes the time of a wait's end
+/// ends the wait, unless that was for the acceptance of a request: such a wait is over too, or is for the ending now, without a
+/// limit.
+pub fn a_tick_ends_the_waits_whose_time_has_come()
+    ensures stays_set { (mode : Mode) (st : State) (t object : ℕ) → length st.objects.devices.links ≤ 9 → waits_for st.base object t ≡ true → object < 64 →
+        ComesAfter (st.base.time + 1) (limit_of t st.base.events) →
+        limit_of t (tick_state mode st).base.events ≡ limit_of t st.base.events }
+    ensures waits_on { (mode : Mode) (st : State) (t object : ℕ) → length st.objects.devices.links ≤ 9 → waits_for st.base object t ≡ true → object < 64 →
+        ComesAfter (st.base.time + 1) (limit_of t st.base.events) →
+        waits_for (tick_state mode st).base object t ≡ true }
+    ensures served_or_waits_on { (mode : Mode) (st : State) (t : ℕ) → length st.objects.devices.links ≤ 9 → ComesAfter (st.base.time + 1) (limit_of t st.base.events) →
+        ((limit_of t (tick_state mode st).base.events ≡ limit_of t st.base.events) × (is_waiting (tick_state mode st).base t ≡ is_waiting st.base t))
+        ⊎ ((is_waiting (tick_state mode st).base t ≡ false) ⊎ HasMoved st.base (tick_state mode st).base t) }
+    ensures is_over { (mode : Mode) (st : State) (t due : ℕ) → length st.objects.devices.links ≤ 9 → ArePeriodic st.objects.clocks → AreInTimeOrder st.base.events →
+        limit_of t st.base.events ≡ Some due → due ≤ st.base.time + 1 →
+        ((d : ℕ) → 1 ≤ d → d ≤ 8 → waits_for st.base (acceptance_object d) t ≡ false) →
+        is_waiting (tick_state mode st).base t ≡ false }
+    ensures is_over_or_moved { (mode : Mode) (st : State) (t due : ℕ) → length st.objects.devices.links ≤ 9 → ArePeriodic st.objects.clocks → AreInTimeOrder st.base.events →
+        limit_of t st.base.events ≡ Some due → due ≤ st.base.time + 1 →
+        (is_waiting (tick_state mode st).base t ≡ false) ⊎ HasMoved st.base (tick_state mode st).base t }
 {}

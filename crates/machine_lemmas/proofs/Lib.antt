@@ -21,3 +21,5 @@ pub mod TickReached
 pub mod TickClocks
 pub mod TickWalk
 pub mod TickTakes
+pub mod TickLimits
+pub mod TickEnds
