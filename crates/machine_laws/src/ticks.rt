@@ -1,18 +1,20 @@
 //! Laws on what is set for a time, and on what ticks do, each the contract of a function that does nothing.
 
-ghost use Rattle.std.specs.Prelude.{◌≡◌, ℕ, ◌+◌, ◌<◌, ◌≤◌, false, true, List, length, ◌⊎◌, Some};
+ghost use Rattle.std.specs.Prelude.{◌≡◌, ℕ, suc, ◌+◌, ◌<◌, ◌≤◌, false, true, pos, List, length, ◌⊎◌, Some};
 ghost use Rattle.tk_types.specs.declared.run.Mode.{Mode};
 ghost use Rattle.tk_types.specs.declared.script.Script.{Script};
 ghost use Rattle.tk_types.specs.declared.task.DueEvent.{DueEvent};
+ghost use Rattle.tk_types.specs.declared.task.Order.{Order};
+ghost use Rattle.tk_types.specs.declared.task.Task.{Task};
 ghost use Rattle.context_model.specs.Clocks.Phases.{ArePeriodic};
 ghost use Rattle.kernel_model.specs.Bodies.Statements.{IsRunnable};
 ghost use Rattle.kernel_model.specs.LawWords.Once.{IsOnce};
 ghost use Rattle.kernel_model.specs.LawWords.TimeOrder.{AreInTimeOrder, AreLater, ComesAfter};
-ghost use Rattle.kernel_model.specs.Tasks.Base.{is_waiting, waits_for};
+ghost use Rattle.kernel_model.specs.Tasks.Base.{is_waiting, make_wait, task_at, waits_for};
 ghost use Rattle.kernel_model.specs.Tasks.Waits.{HavePlaces};
 ghost use Rattle.kernel_model.specs.Words.Events.{insert_event, limit_of};
 ghost use Rattle.device_model.specs.Devices.Requests.{acceptance_object};
-ghost use Rattle.machine_lemmas.specs.TickTimes.{HasMoved};
+ghost use Rattle.machine_lemmas.specs.TickTimes.{HasMoved, after_ticks};
 ghost use Rattle.machine_model.specs.Events.Ticks.{tick_state};
 ghost use Rattle.machine_model.specs.Runs.Reached.{Move, state_after};
 ghost use Rattle.machine_model.specs.States.State.{State};
@@ -72,4 +74,21 @@ pub fn a_tick_ends_the_waits_whose_time_has_come()
     ensures is_over_or_moved { (mode : Mode) (st : State) (t due : ℕ) → length st.objects.devices.links ≤ 9 → ArePeriodic st.objects.clocks → AreInTimeOrder st.base.events →
         limit_of t st.base.events ≡ Some due → due ≤ st.base.time + 1 →
         (is_waiting (tick_state mode st).base t ≡ false) ⊎ HasMoved st.base (tick_state mode st).base t }
+{}
+
+/// A time-out falls due in its tick: a wait with a limit of n milliseconds for an object below 64, as a sleep or a delay is, goes on
+/// through n ticks. With the next tick a wait is over, whatever it is for, also where it is served before, unless it is for the
+/// acceptance of a request: such a wait is over then too, or is for the ending of the request, without a limit.
+pub fn time_outs_fall_due_in_their_tick()
+    ensures waits_on { (mode : Mode) (st : State) (t object : ℕ) (order : Order) (n passed : ℕ) (k : Task) → length st.objects.devices.links ≤ 9 →
+        task_at st.base t ≡ Some k → object < 64 → passed ≤ n →
+        is_waiting (after_ticks mode passed (record st { base = make_wait st.base t object order (pos n) })).base t ≡ true }
+    ensures is_over { (mode : Mode) (st : State) (t object : ℕ) (order : Order) (n : ℕ) (k : Task) → length st.objects.devices.links ≤ 9 →
+        ArePeriodic st.objects.clocks → task_at st.base t ≡ Some k → AreInTimeOrder st.base.events →
+        ((d : ℕ) → 1 ≤ d → d ≤ 8 → object ≡ acceptance_object d → ⊥) →
+        is_waiting (after_ticks mode (suc n) (record st { base = make_wait st.base t object order (pos n) })).base t ≡ false }
+    ensures is_over_or_moved { (mode : Mode) (st : State) (t object : ℕ) (order : Order) (n : ℕ) (k : Task) → length st.objects.devices.links ≤ 9 →
+        ArePeriodic st.objects.clocks → task_at st.base t ≡ Some k → AreInTimeOrder st.base.events →
+        (is_waiting (after_ticks mode (suc n) (record st { base = make_wait st.base t object order (pos n) })).base t ≡ false)
+        ⊎ HasMoved (make_wait st.base t object order (pos n)) (after_ticks mode (suc n) (record st { base = make_wait st.base t object order (pos n) })).base t }
 {}

@@ -23,3 +23,4 @@ pub mod TickWalk
 pub mod TickTakes
 pub mod TickLimits
 pub mod TickEnds
+pub mod TickLasts
