@@ -83,12 +83,12 @@ pub fn time_outs_fall_due_in_their_tick()
     ensures waits_on { (mode : Mode) (st : State) (t object : ℕ) (order : Order) (n passed : ℕ) (k : Task) → length st.objects.devices.links ≤ 9 →
         task_at st.base t ≡ Some k → object < 64 → passed ≤ n →
         is_waiting (after_ticks mode passed (record st { base = make_wait st.base t object order (pos n) })).base t ≡ true }
-    ensures is_over { (mode : Mode) (st : State) (t object : ℕ) (order : Order) (n : ℕ) (k : Task) → length st.objects.devices.links ≤ 9 →
-        ArePeriodic st.objects.clocks → task_at st.base t ≡ Some k → AreInTimeOrder st.base.events →
+    ensures is_over { (mode : Mode) (st : State) (t object : ℕ) (order : Order) (n : ℕ) → length st.objects.devices.links ≤ 9 →
+        ArePeriodic st.objects.clocks → AreInTimeOrder st.base.events →
         ((d : ℕ) → 1 ≤ d → d ≤ 8 → object ≡ acceptance_object d → ⊥) →
         is_waiting (after_ticks mode (suc n) (record st { base = make_wait st.base t object order (pos n) })).base t ≡ false }
-    ensures is_over_or_moved { (mode : Mode) (st : State) (t object : ℕ) (order : Order) (n : ℕ) (k : Task) → length st.objects.devices.links ≤ 9 →
-        ArePeriodic st.objects.clocks → task_at st.base t ≡ Some k → AreInTimeOrder st.base.events →
+    ensures is_over_or_moved { (mode : Mode) (st : State) (t object : ℕ) (order : Order) (n : ℕ) → length st.objects.devices.links ≤ 9 →
+        ArePeriodic st.objects.clocks → AreInTimeOrder st.base.events →
         (is_waiting (after_ticks mode (suc n) (record st { base = make_wait st.base t object order (pos n) })).base t ≡ false)
         ⊎ HasMoved (make_wait st.base t object order (pos n)) (after_ticks mode (suc n) (record st { base = make_wait st.base t object order (pos n) })).base t }
 {}

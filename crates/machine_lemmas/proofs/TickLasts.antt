@@ -1,5 +1,5 @@
 -- A wait with a limit of n milliseconds lasts n ticks, and is over with the next one.
-use Rattle.std.proofs.Common.{◌≡◌, ℕ, suc, zero, ◌+◌, ◌<◌, ◌≤◌, true, false, Option, Some, None, refl, ◌∙◌, ap, sym, subst, pos, ◌⊎◌, inl, arith}
+use Rattle.std.proofs.Common.{◌≡◌, ℕ, suc, zero, ◌+◌, ◌<◌, ◌≤◌, true, false, Option, Some, None, refl, ◌∙◌, ap, sym, subst, pos, ◌⊎◌, inl, inr, arith}
 use Rattle.std.proofs.lemmas.Bool.Decides.{nat_tests}
 use Rattle.tk_types.specs.declared.run.Mode.{Mode}
 use Rattle.tk_types.specs.declared.task.Order.{Order}
@@ -8,8 +8,8 @@ use Rattle.tk_types.specs.declared.task.Phase.TheVariants.{Dormant, Ready, Waiti
 use Rattle.tk_types.specs.declared.task.Task.{Task}
 use Rattle.kernel_model.specs.LawWords.TimeOrder.{AreInTimeOrder, ComesAfter}
 use Rattle.kernel_model.specs.Words.Events.{limit_of}
-use Rattle.kernel_model.specs.Tasks.Base.{Base, is_waiting, make_wait, task_at, waiting_in, waits_for, waits_in}
-use Rattle.kernel_lemmas.proofs.Tables.{entry_at, entry_there, itself}
+use Rattle.kernel_model.specs.Tasks.Base.{Base, is_waiting, make_wait, task_at, waiting_in, waits_for, waits_in, waits_somewhere}
+use Rattle.kernel_lemmas.proofs.Tables.{entry_at, entry_cases, entry_split, entry_there, itself}
 use Rattle.call_lemmas.proofs.Serving.{waits_for_waits}
 use Rattle.call_lemmas.proofs.TimeOuts.{limit_set}
 use Rattle.call_walk.proofs.DueEvents.{time_order_kept}
@@ -106,17 +106,29 @@ stage_after : (mode : Mode) (st : State) (t due : ℕ) (b : Base) (passed : ℕ)
 stage_after mode st t due b zero few has = has
 stage_after mode st t due b (suc passed) few has = tick_any_stage mode (after_ticks mode passed st) t due b (few_after mode st passed few) (stage_after mode st t due b passed few has)
 
+wait_time : (b : Base) (t object : ℕ) (order : Order) (n : ℕ) → (make_wait b t object order (pos n)).time ≡ b.time
+wait_time b t object order n = entry_cases (λ c. c.time ≡ b.time) (task_at b t) b _ refl (λ k at. refl)
+
+begun_cases : (b : Base) (t object : ℕ) (order : Order) (n : ℕ) (o : Option Task) → task_at b t ≡ o → AnyStage t (b.time + n + 1) (make_wait b t object order (pos n)) (make_wait b t object order (pos n))
+begun_cases b t object order n None at =
+    entry_split (λ c. AnyStage t (b.time + n + 1) c c) (task_at b t) b _ (λ none. inr (inl (tt, ap waits_somewhere none))) (λ k there. absurd (cc (at, there)))
+begun_cases b t object order n (Some k) at = inl ((wait_begun b t object order n k at).limit, refl)
+
+-- a wait that begins has its end set, and where there is no task none begins
+begun_stage : (b : Base) (t object : ℕ) (order : Order) (n : ℕ) → AnyStage t (b.time + n + 1) (make_wait b t object order (pos n)) (make_wait b t object order (pos n))
+begun_stage b t object order n = begun_cases b t object order n (task_at b t) refl
+
 -- with one more its wait is over, or has moved from an acceptance to an ending
-pub wait_over_or_moved : (mode : Mode) (st : State) (t object : ℕ) (order : Order) (n : ℕ) (k : Task) → FewDevices (parts_of st) → ArePeriodic st.objects.clocks → task_at st.base t ≡ Some k → AreInTimeOrder st.base.events →
+pub wait_over_or_moved : (mode : Mode) (st : State) (t object : ℕ) (order : Order) (n : ℕ) → FewDevices (parts_of st) → ArePeriodic st.objects.clocks → AreInTimeOrder st.base.events →
     (is_waiting (after_ticks mode (suc n) (record st { base = make_wait st.base t object order (pos n) })).base t ≡ false)
     ⊎ HasMoved (make_wait st.base t object order (pos n)) (after_ticks mode (suc n) (record st { base = make_wait st.base t object order (pos n) })).base t
-wait_over_or_moved mode st t object order n k few periods at set =
+wait_over_or_moved mode st t object order n few periods set =
     let first : State = record st { base = make_wait st.base t object order (pos n) } in
-    let begins : first.base.time ≡ st.base.time = (wait_begun st.base t object order n k at).at in
+    let begins : first.base.time ≡ st.base.time = wait_time st.base t object order n in
     let time : (after_ticks mode n first).base.time ≡ first.base.time + n = time_after mode first n few in
     tick_over mode (after_ticks mode n first) t (st.base.time + n + 1) first.base (few_after mode first n few) (periods_after mode first n few periods)
     (order_after mode first n few (time_order_kept.waits st.base t object order (pos n) set))
-    (stage_after mode first t (st.base.time + n + 1) first.base n few (inl ((wait_begun st.base t object order n k at).limit, refl))) (omega (arith, begins, time))
+    (stage_after mode first t (st.base.time + n + 1) first.base n few (begun_stage st.base t object order n)) (omega (arith, begins, time))
 
 phase_apart : (object other : ℕ) (phase : Phase) → waits_in object phase ≡ true → (object ≡ other → ⊥) → waits_in other phase ≡ false
 phase_apart object other Ready its apart = refl
@@ -127,14 +139,17 @@ row_apart : (object other : ℕ) (o : Option Task) → waiting_in object o ≡ t
 row_apart object other None its apart = refl
 row_apart object other (Some k) its apart = phase_apart object other k.phase its apart
 
--- who waits for one object waits for no other one
-apart_objects : (b : Base) (t object other : ℕ) → waits_for b object t ≡ true → (object ≡ other → ⊥) → waits_for b other t ≡ false
-apart_objects b t object other waits apart = row_apart object other (task_at b t) waits apart
+-- a wait that begins is for its object alone
+begun_apart : (b : Base) (t object other : ℕ) (order : Order) (n : ℕ) (o : Option Task) → task_at b t ≡ o → (object ≡ other → ⊥) → waits_for (make_wait b t object order (pos n)) other t ≡ false
+begun_apart b t object other order n None at apart =
+    entry_split (λ c. waits_for c other t ≡ false) (task_at b t) b _ (λ none. ap (waiting_in other) none) (λ k there. absurd (cc (at, there)))
+begun_apart b t object other order n (Some k) at apart =
+    row_apart object other (task_at (make_wait b t object order (pos n)) t) (wait_begun b t object order n k at).waits apart
 
 -- and one for anything but the acceptance of a request is over
-pub wait_over : (mode : Mode) (st : State) (t object : ℕ) (order : Order) (n : ℕ) (k : Task) → FewDevices (parts_of st) → ArePeriodic st.objects.clocks → task_at st.base t ≡ Some k → AreInTimeOrder st.base.events →
+pub wait_over : (mode : Mode) (st : State) (t object : ℕ) (order : Order) (n : ℕ) → FewDevices (parts_of st) → ArePeriodic st.objects.clocks → AreInTimeOrder st.base.events →
     ((d : ℕ) → 1 ≤ d → d ≤ 8 → object ≡ acceptance_object d → ⊥) → is_waiting (after_ticks mode (suc n) (record st { base = make_wait st.base t object order (pos n) })).base t ≡ false
-wait_over mode st t object order n k few periods at set other =
+wait_over mode st t object order n few periods set other =
     not_moved t (make_wait st.base t object order (pos n)) (after_ticks mode (suc n) (record st { base = make_wait st.base t object order (pos n) })).base
-    (λ d least most. apart_objects (make_wait st.base t object order (pos n)) t object (acceptance_object d) (wait_begun st.base t object order n k at).waits (other d least most))
-    (wait_over_or_moved mode st t object order n k few periods at set)
+    (λ d least most. begun_apart st.base t object (acceptance_object d) order n (task_at st.base t) refl (other d least most))
+    (wait_over_or_moved mode st t object order n few periods set)
