@@ -67,11 +67,11 @@ pub fn a_tick_ends_the_waits_whose_time_has_come()
     ensures served_or_waits_on { (mode : Mode) (st : State) (t : ℕ) → length st.objects.devices.links ≤ 9 → ComesAfter (st.base.time + 1) (limit_of t st.base.events) →
         ((limit_of t (tick_state mode st).base.events ≡ limit_of t st.base.events) × (is_waiting (tick_state mode st).base t ≡ is_waiting st.base t))
         ⊎ ((is_waiting (tick_state mode st).base t ≡ false) ⊎ HasMoved st.base (tick_state mode st).base t) }
-    ensures is_over { (mode : Mode) (st : State) (t due : ℕ) → length st.objects.devices.links ≤ 9 → ArePeriodic st.objects.clocks → AreInTimeOrder st.base.events →
+    ensures is_over { (mode : Mode) (st : State) (t due : ℕ) → length st.objects.devices.links ≤ 9 → AreInTimeOrder st.base.events →
         limit_of t st.base.events ≡ Some due → due ≤ st.base.time + 1 →
         ((d : ℕ) → 1 ≤ d → d ≤ 8 → waits_for st.base (acceptance_object d) t ≡ false) →
         is_waiting (tick_state mode st).base t ≡ false }
-    ensures is_over_or_moved { (mode : Mode) (st : State) (t due : ℕ) → length st.objects.devices.links ≤ 9 → ArePeriodic st.objects.clocks → AreInTimeOrder st.base.events →
+    ensures is_over_or_moved { (mode : Mode) (st : State) (t due : ℕ) → length st.objects.devices.links ≤ 9 → AreInTimeOrder st.base.events →
         limit_of t st.base.events ≡ Some due → due ≤ st.base.time + 1 →
         (is_waiting (tick_state mode st).base t ≡ false) ⊎ HasMoved st.base (tick_state mode st).base t }
 {}
@@ -84,11 +84,11 @@ pub fn time_outs_fall_due_in_their_tick()
         task_at st.base t ≡ Some k → object < 64 → passed ≤ n →
         is_waiting (after_ticks mode passed (record st { base = make_wait st.base t object order (pos n) })).base t ≡ true }
     ensures is_over { (mode : Mode) (st : State) (t object : ℕ) (order : Order) (n : ℕ) → length st.objects.devices.links ≤ 9 →
-        ArePeriodic st.objects.clocks → AreInTimeOrder st.base.events →
+        AreInTimeOrder st.base.events →
         ((d : ℕ) → 1 ≤ d → d ≤ 8 → object ≡ acceptance_object d → ⊥) →
         is_waiting (after_ticks mode (suc n) (record st { base = make_wait st.base t object order (pos n) })).base t ≡ false }
     ensures is_over_or_moved { (mode : Mode) (st : State) (t object : ℕ) (order : Order) (n : ℕ) → length st.objects.devices.links ≤ 9 →
-        ArePeriodic st.objects.clocks → AreInTimeOrder st.base.events →
+        AreInTimeOrder st.base.events →
         (is_waiting (after_ticks mode (suc n) (record st { base = make_wait st.base t object order (pos n) })).base t ≡ false)
         ⊎ HasMoved (make_wait st.base t object order (pos n)) (after_ticks mode (suc n) (record st { base = make_wait st.base t object order (pos n) })).base t }
 {}

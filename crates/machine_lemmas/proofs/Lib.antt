@@ -23,4 +23,5 @@ pub mod TickWalk
 pub mod TickTakes
 pub mod TickLimits
 pub mod TickEnds
+pub mod TickAhead
 pub mod TickLasts

@@ -10,20 +10,18 @@ use Rattle.tk_types.specs.declared.task.Event.TheVariants.{Wait}
 use Rattle.tk_types.specs.declared.task.Order.{Order}
 use Rattle.tk_types.specs.declared.task.Phase.{Phase}
 use Rattle.tk_types.specs.declared.task.Phase.TheVariants.{Dormant, Ready, Waiting}
-use Rattle.kernel_model.specs.LawWords.TimeOrder.{AreInTimeOrder, AreLater, ComesAfter}
+use Rattle.kernel_model.specs.LawWords.TimeOrder.{ComesAfter}
 use Rattle.kernel_model.specs.Words.Events.{due_event, is_wait_of, limit_of}
 use Rattle.kernel_model.specs.Tasks.Base.{Base, advance, give_bytes, is_waiting, move_wait, release, take_due, waits_for}
 use Rattle.kernel_lemmas.proofs.Releases.{release_over}
 use Rattle.call_lemmas.proofs.TimeOuts.{taken_in_time}
-use Rattle.context_model.specs.Clocks.Phases.{ArePeriodic}
 use Rattle.context_model.specs.Clocks.Tables.{Clocks, again}
 use Rattle.device_model.specs.Devices.Requests.{acceptance_object, ending_object}
 use Rattle.machine_model.specs.States.State.{State, parts_of}
 use Rattle.machine_model.specs.Events.Ticks.{limit_answer, tick_state}
 use Rattle.machine_lemmas.specs.TickTimes.{HasMoved}
 use Rattle.machine_lemmas.proofs.Servings.{FewDevices}
-use Rattle.machine_lemmas.proofs.TickLimits.{IsLeft, again_leaves, any_of_phase, limit_later, move_leaves, moved_unlimited, moved_waits, not_its, object_of_phase, phase_at, phase_waits, release_leaves, set_leaves, taken_limit, waits_for_any, waits_for_one}
-use Rattle.machine_lemmas.proofs.TickTakes.{tick_takes_all}
+use Rattle.machine_lemmas.proofs.TickLimits.{IsLeft, again_leaves, any_of_phase, move_leaves, moved_unlimited, moved_waits, not_its, object_of_phase, phase_at, phase_waits, release_leaves, set_leaves, taken_limit, waits_for_any, waits_for_one}
 use Rattle.machine_lemmas.proofs.TickWalk.{HasAt, IsSettleProof, Step, again_time, fallen_keeps, release_at, settling_at, tick_keeps}
 
 -- ---- what may become of a wait
@@ -66,7 +64,7 @@ Stage S t set phase b = IsSet t set phase b ⊎ (IsOver S t b ⊎ IsMoved t phas
 
 -- ---- moves
 
-waiting_left : (t : ℕ) (b c : Base) → IsLeft t b c → is_waiting c t ≡ is_waiting b t
+pub waiting_left : (t : ℕ) (b c : Base) → IsLeft t b c → is_waiting c t ≡ is_waiting b t
 waiting_left t b c is = any_of_phase c t ∙ ap waits_for_any is.phase ∙ sym (any_of_phase b t)
 
 object_left : (t object : ℕ) (b c : Base) → IsLeft t b c → waits_for c object t ≡ waits_for b object t
@@ -248,7 +246,7 @@ tick_leaves_waiting mode st t object few waits below early =
     object_of_phase (tick_state mode st).base object t ∙ ap (phase_waits object) (still mode st t object few waits below early).1 ∙ sym (object_of_phase st.base object t) ∙ waits
 
 -- what moved from a phase moved from a base with that phase
-has_moved : (t : ℕ) (b c : Base) → IsMoved t (phase_at b t) c → HasMoved b c t
+pub has_moved : (t : ℕ) (b c : Base) → IsMoved t (phase_at b t) c → HasMoved b c t
 has_moved t b c moved = record {
   accepting = (moved.from.0, (moved.from.1.0, (moved.from.1.1.0, object_of_phase b (acceptance_object moved.from.0) t ∙ moved.from.1.1.1)));
   ending = moved.to;
@@ -275,32 +273,3 @@ AnyStage t due b c = Stage (Unit {0}) t (Some due) (phase_at b t) c
 -- through any tick a wait's end stays set, or the wait is over, or has moved
 pub tick_any_stage : (mode : Mode) (st : State) (t due : ℕ) (b : Base) → FewDevices (parts_of st) → AnyStage t due b st.base → AnyStage t due b (tick_state mode st).base
 tick_any_stage mode st t due b few has = tick_stage mode st (Unit {0}) t (Some due) (phase_at b t) few (λ is. tt) (λ c at limit taken. tt) has
-
-over_at_last : (now t due : ℕ) (b c : Base) → AreLater now c.events → due ≤ now → AnyStage t due b c → (is_waiting c t ≡ false) ⊎ HasMoved b c t
-over_at_last now t due b c later come (inl is) = let after : now < due = limit_later now t due c.events later is.0 in absurd (omega (arith, after, come))
-over_at_last now t due b c later come (inr (inl over)) = inl over.1
-over_at_last now t due b c later come (inr (inr moved)) = inr (has_moved t b c moved)
-
--- after a tick at its time a wait is over, or has moved
-pub tick_over : (mode : Mode) (st : State) (t due : ℕ) (b : Base) → FewDevices (parts_of st) → ArePeriodic st.objects.clocks → AreInTimeOrder st.base.events → AnyStage t due b st.base → due ≤ st.base.time + 1 →
-    (is_waiting (tick_state mode st).base t ≡ false) ⊎ HasMoved b (tick_state mode st).base t
-tick_over mode st t due b few periods order has come =
-    over_at_last (st.base.time + 1) t due b (tick_state mode st).base (tick_takes_all mode st few periods order) come (tick_any_stage mode st t due b few has)
-
--- a tick ends each wait whose time has come, unless it moves meanwhile
-pub tick_ends_or_moves : (mode : Mode) (st : State) (t due : ℕ) → FewDevices (parts_of st) → ArePeriodic st.objects.clocks → AreInTimeOrder st.base.events → limit_of t st.base.events ≡ Some due → due ≤ st.base.time + 1 →
-    (is_waiting (tick_state mode st).base t ≡ false) ⊎ HasMoved st.base (tick_state mode st).base t
-tick_ends_or_moves mode st t due few periods order limit come = tick_over mode st t due st.base few periods order (inl (limit, refl)) come
-
--- what wasn't for the acceptance of a request hasn't moved
-pub not_moved : (t : ℕ) (b c : Base) → ((d : ℕ) → 1 ≤ d → d ≤ 8 → waits_for b (acceptance_object d) t ≡ false) → (is_waiting c t ≡ false) ⊎ HasMoved b c t → is_waiting c t ≡ false
-not_moved t b c none (inl over) = over
-not_moved t b c none (inr moved) =
-    let accepts = moved.accepting.1.1.1 in
-    let doesnt = none moved.accepting.0 moved.accepting.1.0 moved.accepting.1.1.0 in
-    absurd (cc (accepts, doesnt))
-
--- and a wait for anything else ends
-pub tick_ends : (mode : Mode) (st : State) (t due : ℕ) → FewDevices (parts_of st) → ArePeriodic st.objects.clocks → AreInTimeOrder st.base.events → limit_of t st.base.events ≡ Some due → due ≤ st.base.time + 1 →
-    ((d : ℕ) → 1 ≤ d → d ≤ 8 → waits_for st.base (acceptance_object d) t ≡ false) → is_waiting (tick_state mode st).base t ≡ false
-tick_ends mode st t due few periods order limit come none = not_moved t st.base (tick_state mode st).base none (tick_ends_or_moves mode st t due few periods order limit come)

@@ -13,14 +13,14 @@ use Rattle.kernel_lemmas.proofs.Tables.{entry_at, entry_cases, entry_split, entr
 use Rattle.call_lemmas.proofs.Serving.{waits_for_waits}
 use Rattle.call_lemmas.proofs.TimeOuts.{limit_set}
 use Rattle.call_walk.proofs.DueEvents.{time_order_kept}
-use Rattle.context_model.specs.Clocks.Phases.{ArePeriodic}
 use Rattle.context_model.specs.Clocks.Tables.{Clocks}
 use Rattle.device_model.specs.Devices.Requests.{acceptance_object}
 use Rattle.machine_model.specs.States.State.{State, parts_of}
 use Rattle.machine_model.specs.Events.Ticks.{tick_state}
 use Rattle.machine_lemmas.specs.TickTimes.{HasMoved, after_ticks}
 use Rattle.machine_lemmas.proofs.Servings.{FewDevices}
-use Rattle.machine_lemmas.proofs.TickEnds.{AnyStage, not_moved, tick_any_stage, tick_leaves_set, tick_leaves_waiting, tick_over, tick_time}
+use Rattle.machine_lemmas.proofs.TickEnds.{AnyStage, tick_any_stage, tick_leaves_set, tick_leaves_waiting, tick_time}
+use Rattle.machine_lemmas.proofs.TickAhead.{not_moved, tick_over}
 use Rattle.machine_lemmas.proofs.TickTakes.{tick_keeps_order}
 use Rattle.machine_lemmas.proofs.TickWalk.{IsSettleProof, Step, TickHas, fallen_keeps, tick_keeps}
 
@@ -45,10 +45,6 @@ tick_leaves mode Q st few clocks = tick_keeps AnyBase Q mode (clocks_step mode Q
 few_after : (mode : Mode) (st : State) (passed : ℕ) → FewDevices (parts_of st) → FewDevices (parts_of (after_ticks mode passed st))
 few_after mode st zero few = few
 few_after mode st (suc passed) few = (tick_leaves mode (λ c. Unit {0}) (after_ticks mode passed st) (few_after mode st passed few) tt).few
-
-periods_after : (mode : Mode) (st : State) (passed : ℕ) → FewDevices (parts_of st) → ArePeriodic st.objects.clocks → ArePeriodic (after_ticks mode passed st).objects.clocks
-periods_after mode st zero few periods = periods
-periods_after mode st (suc passed) few periods = (tick_leaves mode ArePeriodic (after_ticks mode passed st) (few_after mode st passed few) (periods_after mode st passed few periods)).clocks
 
 order_after : (mode : Mode) (st : State) (passed : ℕ) → FewDevices (parts_of st) → AreInTimeOrder st.base.events → AreInTimeOrder (after_ticks mode passed st).base.events
 order_after mode st zero few order = order
@@ -119,14 +115,14 @@ begun_stage : (b : Base) (t object : ℕ) (order : Order) (n : ℕ) → AnyStage
 begun_stage b t object order n = begun_cases b t object order n (task_at b t) refl
 
 -- with one more its wait is over, or has moved from an acceptance to an ending
-pub wait_over_or_moved : (mode : Mode) (st : State) (t object : ℕ) (order : Order) (n : ℕ) → FewDevices (parts_of st) → ArePeriodic st.objects.clocks → AreInTimeOrder st.base.events →
+pub wait_over_or_moved : (mode : Mode) (st : State) (t object : ℕ) (order : Order) (n : ℕ) → FewDevices (parts_of st) → AreInTimeOrder st.base.events →
     (is_waiting (after_ticks mode (suc n) (record st { base = make_wait st.base t object order (pos n) })).base t ≡ false)
     ⊎ HasMoved (make_wait st.base t object order (pos n)) (after_ticks mode (suc n) (record st { base = make_wait st.base t object order (pos n) })).base t
-wait_over_or_moved mode st t object order n few periods set =
+wait_over_or_moved mode st t object order n few set =
     let first : State = record st { base = make_wait st.base t object order (pos n) } in
     let begins : first.base.time ≡ st.base.time = wait_time st.base t object order n in
     let time : (after_ticks mode n first).base.time ≡ first.base.time + n = time_after mode first n few in
-    tick_over mode (after_ticks mode n first) t (st.base.time + n + 1) first.base (few_after mode first n few) (periods_after mode first n few periods)
+    tick_over mode (after_ticks mode n first) t (st.base.time + n + 1) first.base (few_after mode first n few)
     (order_after mode first n few (time_order_kept.waits st.base t object order (pos n) set))
     (stage_after mode first t (st.base.time + n + 1) first.base n few (begun_stage st.base t object order n)) (omega (arith, begins, time))
 
@@ -147,9 +143,9 @@ begun_apart b t object other order n (Some k) at apart =
     row_apart object other (task_at (make_wait b t object order (pos n)) t) (wait_begun b t object order n k at).waits apart
 
 -- and one for anything but the acceptance of a request is over
-pub wait_over : (mode : Mode) (st : State) (t object : ℕ) (order : Order) (n : ℕ) → FewDevices (parts_of st) → ArePeriodic st.objects.clocks → AreInTimeOrder st.base.events →
+pub wait_over : (mode : Mode) (st : State) (t object : ℕ) (order : Order) (n : ℕ) → FewDevices (parts_of st) → AreInTimeOrder st.base.events →
     ((d : ℕ) → 1 ≤ d → d ≤ 8 → object ≡ acceptance_object d → ⊥) → is_waiting (after_ticks mode (suc n) (record st { base = make_wait st.base t object order (pos n) })).base t ≡ false
-wait_over mode st t object order n few periods set other =
+wait_over mode st t object order n few set other =
     not_moved t (make_wait st.base t object order (pos n)) (after_ticks mode (suc n) (record st { base = make_wait st.base t object order (pos n) })).base
     (λ d least most. begun_apart st.base t object (acceptance_object d) order n (task_at st.base t) refl (other d least most))
-    (wait_over_or_moved mode st t object order n few periods set)
+    (wait_over_or_moved mode st t object order n few set)

@@ -29,12 +29,12 @@ not_its t (Wait other) apart = let differs : other ≡ t → ⊥ = λ e. apart (
 not_its t (Cyclic n) apart = refl
 not_its t (Alarm n) apart = refl
 
-other_wait : (t u : ℕ) (what : Event) → (u ≡ t → ⊥) → is_wait_of u what ≡ true → is_wait_of t what ≡ false
+pub other_wait : (t u : ℕ) (what : Event) → (u ≡ t → ⊥) → is_wait_of u what ≡ true → is_wait_of t what ≡ false
 other_wait t u (Wait other) apart is = grind (arith, nat_tests, apart, is)
 other_wait t u (Cyclic n) apart is = refl
 other_wait t u (Alarm n) apart is = refl
 
-limit_rest : (t : ℕ) (first : DueEvent) (rest : List DueEvent) → ends_wait_of t first ≡ false → limit_of t (first ∷ rest) ≡ limit_of t rest
+pub limit_rest : (t : ℕ) (first : DueEvent) (rest : List DueEvent) → ends_wait_of t first ≡ false → limit_of t (first ∷ rest) ≡ limit_of t rest
 limit_rest t first rest is = ap (λ here. option_map (λ (event : DueEvent). event.time) (cond here (Some first) (find (ends_wait_of t) rest))) is
 
 taken_if : (t : ℕ) (what : Event) (first : DueEvent) (rest : List DueEvent) (due : Bool) → cond due (Some first.what) None ≡ Some what → is_wait_of t what ≡ false → limit_of t (cond due rest (first ∷ rest)) ≡ limit_of t (first ∷ rest)
@@ -69,12 +69,12 @@ limit_unset : (t : ℕ) (events : List DueEvent) → limit_of t (without_wait t 
 limit_unset t [] = refl
 limit_unset t (first ∷ rest) = unset_if t t first (without_wait t rest) (ends_wait_of t first) refl (limit_unset t rest)
 
-not_cyclic : (t id : ℕ) (what : Event) → is_event (Cyclic id) what ≡ true → is_wait_of t what ≡ false
+pub not_cyclic : (t id : ℕ) (what : Event) → is_event (Cyclic id) what ≡ true → is_wait_of t what ≡ false
 not_cyclic t id (Wait u) is = absurd (cc is)
 not_cyclic t id (Cyclic n) is = refl
 not_cyclic t id (Alarm n) is = refl
 
-limit_without_cyclic : (t id : ℕ) (events : List DueEvent) → limit_of t (without_event (Cyclic id) events) ≡ limit_of t events
+pub limit_without_cyclic : (t id : ℕ) (events : List DueEvent) → limit_of t (without_event (Cyclic id) events) ≡ limit_of t events
 limit_without_cyclic t id [] = refl
 limit_without_cyclic t id (first ∷ rest) = left_out t first (without_event (Cyclic id) rest) rest (starts (Cyclic id) first) (not_cyclic t id first.what) (limit_without_cyclic t id rest)
 

@@ -67,10 +67,10 @@ late_inserted now event (first ∷ rest) later = late_put now event first rest (
 
 -- ---- events in order, few of which are due
 
-pairs_head : (first : DueEvent) (rest : List DueEvent) → AreInTimeOrder (first ∷ rest) → All (λ event. first.time ≤ event.time) rest
+pub pairs_head : (first : DueEvent) (rest : List DueEvent) → AreInTimeOrder (first ∷ rest) → All (λ event. first.time ≤ event.time) rest
 pairs_head first rest pairs = λ k d within. pairs 0 (suc k) d (omega arith) (omega arith)
 
-pairs_tail : (first : DueEvent) (rest : List DueEvent) → AreInTimeOrder (first ∷ rest) → AreInTimeOrder rest
+pub pairs_tail : (first : DueEvent) (rest : List DueEvent) → AreInTimeOrder (first ∷ rest) → AreInTimeOrder rest
 pairs_tail first rest pairs = λ i j d before within. pairs (suc i) (suc j) d (omega arith) (omega arith)
 
 -- the events are in order, and at most so many are due
@@ -99,7 +99,7 @@ few_again now most b c what periods has =
     (again_time b c what ∙ has.0, again_holds (AreFew now most) b c what (subst (λ at. Survives at (AreFew now most)) (sym has.0) (few_survives now most)) periods has.1)
 
 -- where the first isn't due, none is
-all_later : (now : ℕ) (events : List DueEvent) → AreInTimeOrder events → is_due now events ≡ false → AreLater now events
+pub all_later : (now : ℕ) (events : List DueEvent) → AreInTimeOrder events → is_due now events ≡ false → AreLater now events
 all_later now [] order idle = All-nil (λ (event : DueEvent). now < event.time)
 all_later now (first ∷ rest) order idle =
     let after : now < first.time = grind (arith, nat_tests, idle) in
@@ -129,7 +129,7 @@ taken_few now most (first ∷ rest) true is taken are = record {
       omega (arith, one, bound);
 }
 
-idle_if : (due : Bool) (now : ℕ) (events : List DueEvent) → is_due now events ≡ due → cond due (first_event events) None ≡ None → is_due now events ≡ false
+pub idle_if : (due : Bool) (now : ℕ) (events : List DueEvent) → is_due now events ≡ due → cond due (first_event events) None ≡ None → is_due now events ≡ false
 idle_if due now [] is none = refl
 idle_if true now (event ∷ events) is none = absurd (cc none)
 idle_if false now (event ∷ events) is none = is

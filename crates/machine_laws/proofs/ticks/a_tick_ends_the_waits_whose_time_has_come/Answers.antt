@@ -1,4 +1,5 @@
-use Rattle.machine_lemmas.proofs.TickEnds.{tick_ends, tick_ends_or_moves, tick_leaves_or_serves, tick_leaves_set, tick_leaves_waiting}
+use Rattle.machine_lemmas.proofs.TickAhead.{tick_ends, tick_ends_or_moves}
+use Rattle.machine_lemmas.proofs.TickEnds.{tick_leaves_or_serves, tick_leaves_set, tick_leaves_waiting}
 use Rattle.machine_laws.proofs.ticks.a_tick_ends_the_waits_whose_time_has_come.Goals as goal
 
 pub returns-clause-stays_set : goal.returns-clause-stays_set
