@@ -1,4 +1,6 @@
-//! Laws on what is set for a time, and on what ticks do, each the contract of a function that does nothing.
+//! Laws on what is set for a time, and on what ticks do, each the contract of a function that does nothing. Where a clause wants
+//! at most eight devices, in a list that begins with a place that none takes, every state that a machine comes to has them so:
+//! the law that settling serves until none can be says it (`devices`).
 
 ghost use Rattle.std.specs.Prelude.{◌≡◌, ℕ, suc, ◌+◌, ◌<◌, ◌≤◌, false, true, pos, List, length, ◌⊎◌, Some};
 ghost use Rattle.tk_types.specs.declared.run.Mode.{Mode};
@@ -51,8 +53,8 @@ pub fn events_fall_due_in_order()
         AreLater ((state_after script mode budget moves).base.time + 1) (tick_state mode (state_after script mode budget moves)).base.events }
 {}
 
-/// A tick ends the waits whose time has come, and otherwise only those that are served. One that makes an earlier time than that of
-/// a wait's end, and every tick where a wait has no limit, leaves it set and its task waiting where the wait is for an object below
+/// A tick ends the waits whose time has come, and leaves those that nothing serves. One that makes an earlier time than that of a
+/// wait's end, and every tick where a wait has no limit, leaves it set and its task waiting where the wait is for an object below
 /// 64, as a sleep or a delay is; whatever the wait is for, it leaves its limit and whether the task waits, or the wait is over, or
 /// it was for the acceptance of a request and is for its ending now, without a limit. A tick that makes the time of a wait's end
 /// ends the wait, unless that was for the acceptance of a request: such a wait is over too, or is for the ending now, without a

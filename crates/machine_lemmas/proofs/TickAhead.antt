@@ -45,16 +45,19 @@ past_less : (here : Bool) (n m : ℕ) → n ≤ m → past here n ≤ past here 
 past_less true n m less = omega arith
 past_less false n m less = omega (arith, less)
 
-out_if : (t : ℕ) (first : DueEvent) (kept rest : List DueEvent) (out : Bool) → (out ≡ true → ends_wait_of t first ≡ false) → ahead t kept ≤ ahead t rest → ahead t (cond (not out) (first ∷ kept) kept) ≤ ahead t (first ∷ rest)
+out_if : (t : ℕ) (first : DueEvent) (kept rest : List DueEvent) (out : Bool) → (out ≡ true → ends_wait_of t first ≡ false) → ahead t kept ≤ ahead t rest →
+    ahead t (cond (not out) (first ∷ kept) kept) ≤ ahead t (first ∷ rest)
 out_if t first kept rest true other fewer = let more : ahead t (first ∷ rest) ≡ suc (ahead t rest) = ap (λ here. past here (ahead t rest)) (other refl) in omega (arith, more, fewer)
 out_if t first kept rest false other fewer = past_less (ends_wait_of t first) (ahead t kept) (ahead t rest) fewer
 
 -- without other events no more do
-ahead_out : (t : ℕ) (out : DueEvent → Bool) → ((event : DueEvent) → out event ≡ true → ends_wait_of t event ≡ false) → (events : List DueEvent) → ahead t (filter (λ event. not (out event)) events) ≤ ahead t events
+ahead_out : (t : ℕ) (out : DueEvent → Bool) → ((event : DueEvent) → out event ≡ true → ends_wait_of t event ≡ false) → (events : List DueEvent) →
+    ahead t (filter (λ event. not (out event)) events) ≤ ahead t events
 ahead_out t out other [] = omega arith
 ahead_out t out other (first ∷ rest) = out_if t first (filter (λ event. not (out event)) rest) rest (out first) (other first) (ahead_out t out other rest)
 
-limit_from_if : (low t due : ℕ) (first : DueEvent) (rest : List DueEvent) (here : Bool) → low ≤ first.time → option_map (λ (event : DueEvent). event.time) (cond here (Some first) (find (ends_wait_of t) rest)) ≡ Some due →
+limit_from_if : (low t due : ℕ) (first : DueEvent) (rest : List DueEvent) (here : Bool) → low ≤ first.time →
+    option_map (λ (event : DueEvent). event.time) (cond here (Some first) (find (ends_wait_of t) rest)) ≡ Some due →
     (limit_of t rest ≡ Some due → low ≤ due) → low ≤ due
 limit_from_if low t due first rest true from limit more = let same : first.time ≡ due = cc limit in omega (arith, same, from)
 limit_from_if low t due first rest false from limit more = more limit
@@ -69,7 +72,8 @@ first_from : (t due : ℕ) (first : DueEvent) (rest : List DueEvent) → AreInTi
 first_from t due first rest order limit =
     limit_from_if first.time t due first rest (ends_wait_of t first) (omega arith) limit (limit_from first.time t due rest (pairs_head first rest order))
 
-put_behind : (t due : ℕ) (event first : DueEvent) (rest inserted : List DueEvent) (before here : Bool) → nat_lt event.time first.time ≡ before → ends_wait_of t first ≡ here → due ≤ event.time → first.time ≤ due →
+put_behind : (t due : ℕ) (event first : DueEvent) (rest inserted : List DueEvent) (before here : Bool) → nat_lt event.time first.time ≡ before → ends_wait_of t first ≡ here →
+    due ≤ event.time → first.time ≤ due →
     limit_of t (first ∷ rest) ≡ Some due → (limit_of t rest ≡ Some due → ahead t inserted ≤ ahead t rest) → ahead t (cond before (event ∷ first ∷ rest) (first ∷ inserted)) ≤ ahead t (first ∷ rest)
 put_behind t due event first rest inserted true here is end late early limit more = absurd (grind (arith, nat_tests, is, late, early))
 put_behind t due event first rest inserted false true is end late early limit more =
@@ -78,7 +82,8 @@ put_behind t due event first rest inserted false false is end late early limit m
     past_less (ends_wait_of t first) (ahead t inserted) (ahead t rest) (more (sym (limit_rest t first rest end) ∙ limit))
 
 -- what is set for no earlier time takes its place behind
-ahead_put : (t due : ℕ) (event : DueEvent) (events : List DueEvent) → due ≤ event.time → AreInTimeOrder events → limit_of t events ≡ Some due → ahead t (insert_event event events) ≤ ahead t events
+ahead_put : (t due : ℕ) (event : DueEvent) (events : List DueEvent) → due ≤ event.time → AreInTimeOrder events → limit_of t events ≡ Some due →
+    ahead t (insert_event event events) ≤ ahead t events
 ahead_put t due event [] late order limit = absurd (cc limit)
 ahead_put t due event (first ∷ rest) late order limit =
     put_behind t due event first rest (insert_event event rest) (nat_lt event.time first.time) (ends_wait_of t first) refl refl late (first_from t due first rest order limit) limit
@@ -121,7 +126,8 @@ turn_release_if t due left u b answer false test has =
     let apart : u ≡ t → ⊥ = λ same. grind (arith, nat_tests, test, same) in
     nearer t due left b (release b u answer) (release_leaves t u b answer apart) (λ limit. ahead_release t u b answer apart) (has apart)
 
-turn_move_if : (t due left u from object : ℕ) (order : Order) (b : Base) (test : Bool) → (u == t) ≡ test → waits_for b from u ≡ true → Turn t due left b → Turn t due left (move_wait b u object order)
+turn_move_if : (t due left u from object : ℕ) (order : Order) (b : Base) (test : Bool) → (u == t) ≡ test → waits_for b from u ≡ true → Turn t due left b →
+    Turn t due left (move_wait b u object order)
 turn_move_if t due left u from object order b true test waits has =
     let same : u ≡ t = grind (arith, nat_tests, test) in
     inr (inl (subst (λ (v : ℕ). limit_of v (move_wait b u object order).events ≡ None) same (moved_unlimited u from object order b waits)))
@@ -156,7 +162,8 @@ turn_settles now t due left =
 
 -- ---- events that fall due
 
-again_ahead_in : (t due id : ℕ) (b : Base) (slot : Option CyclicRow) → due ≤ b.time → AreInTimeOrder b.events → limit_of t b.events ≡ Some due → ahead t (again_in b (Cyclic id) slot).events ≤ ahead t b.events
+again_ahead_in : (t due id : ℕ) (b : Base) (slot : Option CyclicRow) → due ≤ b.time → AreInTimeOrder b.events → limit_of t b.events ≡ Some due →
+    ahead t (again_in b (Cyclic id) slot).events ≤ ahead t b.events
 again_ahead_in t due id b None come order limit = omega arith
 again_ahead_in t due id b (Some k) come order limit =
     let put = ahead_put t due (record { time = b.time + k.period; key = b.made; what = Cyclic id }) (without_event (Cyclic id) b.events) (omega (arith, come))
@@ -164,7 +171,8 @@ again_ahead_in t due id b (Some k) come order limit =
     let out = ahead_out t (starts (Cyclic id)) (λ event is. not_cyclic t id event.what is) b.events in
     omega (arith, put, out)
 
-again_ahead : (t due : ℕ) (b : Base) (c : Clocks) (what : DueKind) → due ≤ b.time → AreInTimeOrder b.events → limit_of t b.events ≡ Some due → ahead t (again b c what).events ≤ ahead t b.events
+again_ahead : (t due : ℕ) (b : Base) (c : Clocks) (what : DueKind) → due ≤ b.time → AreInTimeOrder b.events → limit_of t b.events ≡ Some due →
+    ahead t (again b c what).events ≤ ahead t b.events
 unfolding again
 again_ahead t due b c (Wait u) come order limit = omega arith
 again_ahead t due b c (Cyclic id) come order limit = again_ahead_in t due id b (cyclic_at c id) come order limit
@@ -176,19 +184,22 @@ again_turn now t due left b c what come has = (
   nearer t due left b (again b c what) (again_leaves t b c what) (λ limit. again_ahead t due b c what (let at = has.0.0.0 in omega (arith, at, come)) has.0.1 limit) has.1,
 )
 
-ahead_first_if : (t : ℕ) (what : DueKind) (first : DueEvent) (rest : List DueEvent) (due : Bool) → cond due (Some first.what) None ≡ Some what → is_wait_of t what ≡ false → ahead t (cond due rest (first ∷ rest)) + 1 ≤ ahead t (first ∷ rest)
+ahead_first_if : (t : ℕ) (what : DueKind) (first : DueEvent) (rest : List DueEvent) (due : Bool) → cond due (Some first.what) None ≡ Some what → is_wait_of t what ≡ false →
+    ahead t (cond due rest (first ∷ rest)) + 1 ≤ ahead t (first ∷ rest)
 ahead_first_if t what first rest true taken other =
     let same : first.what ≡ what = cc taken in
     let more : ahead t (first ∷ rest) ≡ suc (ahead t rest) = ap (λ here. past here (ahead t rest)) (ap (is_wait_of t) same ∙ other) in
     omega (arith, more)
 ahead_first_if t what first rest false taken other = absurd (cc taken)
 
-ahead_taken : (t now : ℕ) (events : List DueEvent) (what : DueKind) → due_event now events ≡ Some what → is_wait_of t what ≡ false → ahead t (left_after now events) + 1 ≤ ahead t events
+ahead_taken : (t now : ℕ) (events : List DueEvent) (what : DueKind) → due_event now events ≡ Some what → is_wait_of t what ≡ false →
+    ahead t (left_after now events) + 1 ≤ ahead t events
 ahead_taken t now [] what taken other = absurd (cc taken)
 ahead_taken t now (first ∷ rest) what taken other = ahead_first_if t what first rest (nat_le first.time now) taken other
 
 -- another event that is taken leaves one less before the end of the wait
-turn_taken : (t due left : ℕ) (b : Base) (what : DueKind) → due_event b.time b.events ≡ Some what → is_wait_of t what ≡ false → Turn t due (suc left) b → Turn t due left (take_due b)
+turn_taken : (t due left : ℕ) (b : Base) (what : DueKind) → due_event b.time b.events ≡ Some what → is_wait_of t what ≡ false → Turn t due (suc left) b →
+    Turn t due left (take_due b)
 turn_taken t due left b what is other (inl over) = inl over
 turn_taken t due left b what is other (inr (inl none)) = inr (inl (taken_limit t b.time b.events what is other ∙ none))
 turn_taken t due left b what is other (inr (inr set)) =
@@ -200,7 +211,8 @@ AnyClocks c = Unit {0}
 wait_apart : (t u : ℕ) (what : DueKind) → what ≡ Wait u → (u ≡ t → ⊥) → is_wait_of t what ≡ false
 wait_apart t u what named apart = let other : (u == t) ≡ false = grind (arith, nat_tests, apart) in ap (is_wait_of t) named ∙ other
 
-fallen_turn : (mode : Mode) (now t due left : ℕ) (st : State) (what : DueKind) → due ≤ now → due_event st.base.time st.base.events ≡ Some what → TickHas (InTurn now t due (suc left)) AnyClocks (parts_of st) →
+fallen_turn : (mode : Mode) (now t due left : ℕ) (st : State) (what : DueKind) → due ≤ now → due_event st.base.time st.base.events ≡ Some what →
+    TickHas (InTurn now t due (suc left)) AnyClocks (parts_of st) →
     TickHas (InTurn now t due left) AnyClocks (parts_of (fallen mode (record st { base = take_due st.base }) what))
 fallen_turn mode now t due left st what come is has =
     let at : HasAt now (λ events. Unit {0}) (take_due st.base) = has.base.0.0 in
@@ -226,7 +238,8 @@ none_before t due b (inl over) = inl over
 none_before t due b (inr (inl none)) = inr (λ set. absurd (cc (none, set)))
 none_before t due b (inr (inr set)) = let bound = set.1 in absurd (omega (arith, bound))
 
-next_came : (left now t due : ℕ) (mode : Mode) (st : State) (what : Option DueKind) → due ≤ now → due_event st.base.time st.base.events ≡ what → TickHas (InTurn now t due (suc left)) AnyClocks (parts_of st) →
+next_came : (left now t due : ℕ) (mode : Mode) (st : State) (what : Option DueKind) → due ≤ now → due_event st.base.time st.base.events ≡ what →
+    TickHas (InTurn now t due (suc left)) AnyClocks (parts_of st) →
     ((later : State) → TickHas (InTurn now t due left) AnyClocks (parts_of later) → Came t due (due_done left mode later).base) → Came t due (next left mode st what).base
 next_came left now t due mode st None come is has rest =
     let idle : due_event now st.base.events ≡ None = ap (λ at. due_event at st.base.events) (sym has.base.0.0.0) ∙ is in
@@ -239,7 +252,8 @@ unfolding due_done
 came_by zero now t due mode st come has = none_before t due st.base has.base.1
 came_by (suc left) now t due mode st come has = next_came left now t due mode st (due_event st.base.time st.base.events) come refl has (λ later now_has. came_by left now t due mode later come now_has)
 
-inside_if : (t due : ℕ) (first : DueEvent) (rest : List DueEvent) (here : Bool) → ends_wait_of t first ≡ here → limit_of t (first ∷ rest) ≡ Some due → (limit_of t rest ≡ Some due → ahead t rest + 1 ≤ length rest) → past here (ahead t rest) + 1 ≤ suc (length rest)
+inside_if : (t due : ℕ) (first : DueEvent) (rest : List DueEvent) (here : Bool) → ends_wait_of t first ≡ here → limit_of t (first ∷ rest) ≡ Some due →
+    (limit_of t rest ≡ Some due → ahead t rest + 1 ≤ length rest) → past here (ahead t rest) + 1 ≤ suc (length rest)
 inside_if t due first rest true is limit more = omega arith
 inside_if t due first rest false is limit more = let fewer = more (sym (limit_rest t first rest is) ∙ limit) in omega (arith, fewer)
 
@@ -274,7 +288,8 @@ tick_over mode st t due b few order has come =
     (tick_any_stage mode st t due b few has)
 
 -- a tick ends each wait whose time has come, unless it moves meanwhile
-pub tick_ends_or_moves : (mode : Mode) (st : State) (t due : ℕ) → FewDevices (parts_of st) → AreInTimeOrder st.base.events → limit_of t st.base.events ≡ Some due → due ≤ st.base.time + 1 →
+pub tick_ends_or_moves : (mode : Mode) (st : State) (t due : ℕ) → FewDevices (parts_of st) → AreInTimeOrder st.base.events → limit_of t st.base.events ≡ Some due →
+    due ≤ st.base.time + 1 →
     (is_waiting (tick_state mode st).base t ≡ false) ⊎ HasMoved st.base (tick_state mode st).base t
 tick_ends_or_moves mode st t due few order limit come = tick_over mode st t due st.base few order (inl (limit, refl)) come
 

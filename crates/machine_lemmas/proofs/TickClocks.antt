@@ -22,7 +22,8 @@ SameClocks : Parts → Option Parts → Type 0
 SameClocks p None = Unit {0}
 SameClocks p (Some q) = q.objects.clocks ≡ p.objects.clocks
 
-mapped_clocks : {A : Type 0} → (p : Parts) (put : A → Parts) (served : Option A) → ((left : A) → (put left).objects.clocks ≡ p.objects.clocks) → SameClocks p (option_map put served)
+mapped_clocks : {A : Type 0} → (p : Parts) (put : A → Parts) (served : Option A) → ((left : A) → (put left).objects.clocks ≡ p.objects.clocks) →
+    SameClocks p (option_map put served)
 unfolding SameClocks
 mapped_clocks p put None same = tt
 mapped_clocks p put (Some left) same = same left

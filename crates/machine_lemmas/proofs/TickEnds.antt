@@ -64,6 +64,7 @@ Stage S t set phase b = IsSet t set phase b ⊎ (IsOver S t b ⊎ IsMoved t phas
 
 -- ---- moves
 
+-- such a move leaves whether the task waits
 pub waiting_left : (t : ℕ) (b c : Base) → IsLeft t b c → is_waiting c t ≡ is_waiting b t
 waiting_left t b c is = any_of_phase c t ∙ ap waits_for_any is.phase ∙ sym (any_of_phase b t)
 
@@ -80,7 +81,8 @@ left_stage S t set phase b c is (inr (inr moved)) = inr (inr (record {
   unlimited = is.limit ∙ moved.unlimited;
 }))
 
-release_stage_if : (S : Type 0) (t u : ℕ) (set : Option ℕ) (phase : Option Phase) (b : Base) (answer : Answer) (test : Bool) → (u == t) ≡ test → (u ≡ t → S) → ((u ≡ t → ⊥) → Stage S t set phase b) → Stage S t set phase (release b u answer)
+release_stage_if : (S : Type 0) (t u : ℕ) (set : Option ℕ) (phase : Option Phase) (b : Base) (answer : Answer) (test : Bool) → (u == t) ≡ test → (u ≡ t → S) →
+    ((u ≡ t → ⊥) → Stage S t set phase b) → Stage S t set phase (release b u answer)
 release_stage_if S t u set phase b answer true test reason has =
     let same : u ≡ t = grind (arith, nat_tests, test) in
     inr (inl (reason same, subst (λ (v : ℕ). is_waiting (release b u answer) v ≡ false) same (release_over b u answer)))
@@ -89,21 +91,24 @@ release_stage_if S t u set phase b answer false test reason has =
     left_stage S t set phase b (release b u answer) (release_leaves t u b answer apart) (has apart)
 
 -- the end of its own wait is its end, and the end of another one leaves it
-release_stage : (S : Type 0) (t u : ℕ) (set : Option ℕ) (phase : Option Phase) (b : Base) (answer : Answer) → (u ≡ t → S) → ((u ≡ t → ⊥) → Stage S t set phase b) → Stage S t set phase (release b u answer)
+release_stage : (S : Type 0) (t u : ℕ) (set : Option ℕ) (phase : Option Phase) (b : Base) (answer : Answer) → (u ≡ t → S) → ((u ≡ t → ⊥) → Stage S t set phase b) →
+    Stage S t set phase (release b u answer)
 release_stage S t u set phase b answer reason has = release_stage_if S t u set phase b answer (u == t) refl reason has
 
 moved_servable : (t : ℕ) (phase : Option Phase) (b : Base) → IsMoved t phase b → IsServable phase
 moved_servable t phase b moved = servable (acceptance_object moved.from.0) phase moved.from.1.1.1 (omega arith)
 
 -- who is served waited for an object that is served
-served_reason : (S : Type 0) (t u object : ℕ) (set : Option ℕ) (phase : Option Phase) (b : Base) → (IsServable phase → S) → 64 ≤ object → waits_for b object u ≡ true → Stage S t set phase b → u ≡ t → S
+served_reason : (S : Type 0) (t u object : ℕ) (set : Option ℕ) (phase : Option Phase) (b : Base) → (IsServable phase → S) → 64 ≤ object → waits_for b object u ≡ true →
+    Stage S t set phase b → u ≡ t → S
 served_reason S t u object set phase b serves above waits (inl set_yet) same =
     let its : waits_for b object t ≡ true = subst (λ (v : ℕ). waits_for b object v ≡ true) same waits in
     serves (servable object phase (ap (phase_waits object) (sym set_yet.1) ∙ sym (object_of_phase b object t) ∙ its) above)
 served_reason S t u object set phase b serves above waits (inr (inl over)) same = over.0
 served_reason S t u object set phase b serves above waits (inr (inr moved)) same = serves (moved_servable t phase b moved)
 
-its_move : (S : Type 0) (t d dd : ℕ) (order : Order) (set : Option ℕ) (phase : Option Phase) (b : Base) → 1 ≤ d → d ≤ 8 → waits_for b (acceptance_object d) t ≡ true → Stage S t set phase b →
+its_move : (S : Type 0) (t d dd : ℕ) (order : Order) (set : Option ℕ) (phase : Option Phase) (b : Base) → 1 ≤ d → d ≤ 8 → waits_for b (acceptance_object d) t ≡ true →
+    Stage S t set phase b →
     Stage S t set phase (move_wait b t (ending_object dd) order)
 its_move S t d dd order set phase b least most waits (inl set_yet) = inr (inr (record {
   from = (d, (least, (most, ap (phase_waits (acceptance_object d)) (sym set_yet.1) ∙ sym (object_of_phase b (acceptance_object d) t) ∙ waits)));
@@ -120,7 +125,8 @@ its_move S t d dd order set phase b least most waits (inr (inr moved)) = inr (in
   unlimited = moved_unlimited t (acceptance_object d) (ending_object dd) order b waits;
 }))
 
-move_stage_if : (S : Type 0) (t u d dd : ℕ) (order : Order) (set : Option ℕ) (phase : Option Phase) (b : Base) (test : Bool) → (u == t) ≡ test → 1 ≤ d → d ≤ 8 → waits_for b (acceptance_object d) u ≡ true → Stage S t set phase b →
+move_stage_if : (S : Type 0) (t u d dd : ℕ) (order : Order) (set : Option ℕ) (phase : Option Phase) (b : Base) (test : Bool) → (u == t) ≡ test → 1 ≤ d → d ≤ 8 →
+    waits_for b (acceptance_object d) u ≡ true → Stage S t set phase b →
     Stage S t set phase (move_wait b u (ending_object dd) order)
 move_stage_if S t u d dd order set phase b true test least most waits has =
     let same : t ≡ u = grind (arith, nat_tests, test) in
@@ -164,14 +170,16 @@ stage_settles now S t set phase serves = record {
 -- ---- events that fall due
 
 -- another event that is taken leaves the wait
-taken_stage : (S : Type 0) (t : ℕ) (set : Option ℕ) (phase : Option Phase) (b : Base) (what : DueKind) → due_event b.time b.events ≡ Some what → is_wait_of t what ≡ false → Stage S t set phase b → Stage S t set phase (take_due b)
+taken_stage : (S : Type 0) (t : ℕ) (set : Option ℕ) (phase : Option Phase) (b : Base) (what : DueKind) → due_event b.time b.events ≡ Some what → is_wait_of t what ≡ false →
+    Stage S t set phase b → Stage S t set phase (take_due b)
 taken_stage S t set phase b what is other has = left_stage S t set phase b (take_due b) (record { limit = taken_limit t b.time b.events what is other; phase = refl }) has
 
 -- where its own end is taken that is the reason of its end
 abbrev pub Ends : Type 0 → ℕ → ℕ → Option ℕ → Type 0
 Ends S now t set = (b : Base) → b.time ≡ now → limit_of t b.events ≡ set → due_event b.time b.events ≡ Some (Wait t) → S
 
-ended_reason : (S : Type 0) (now t u : ℕ) (set : Option ℕ) (phase : Option Phase) (b : Base) (what : DueKind) → (IsServable phase → S) → Ends S now t set → due_event b.time b.events ≡ Some what → what ≡ Wait u → Staged now S t set phase b → u ≡ t → S
+ended_reason : (S : Type 0) (now t u : ℕ) (set : Option ℕ) (phase : Option Phase) (b : Base) (what : DueKind) → (IsServable phase → S) → Ends S now t set →
+    due_event b.time b.events ≡ Some what → what ≡ Wait u → Staged now S t set phase b → u ≡ t → S
 ended_reason S now t u set phase b what serves ends is named (at, inl set_yet) same = ends b at.0 set_yet.0 (is ∙ ap (λ w. Some w) (named ∙ ap Wait same))
 ended_reason S now t u set phase b what serves ends is named (at, inr (inl over)) same = over.0
 ended_reason S now t u set phase b what serves ends is named (at, inr (inr moved)) same = serves (moved_servable t phase b moved)
@@ -181,7 +189,8 @@ wait_apart t u what named apart =
     let other : (u == t) ≡ false = grind (arith, nat_tests, apart) in
     ap (is_wait_of t) named ∙ other
 
-stage_step : (mode : Mode) (now : ℕ) (S : Type 0) (t : ℕ) (set : Option ℕ) (phase : Option Phase) → (IsServable phase → S) → Ends S now t set → Step (Staged now S t set phase) AnyClocks mode
+stage_step : (mode : Mode) (now : ℕ) (S : Type 0) (t : ℕ) (set : Option ℕ) (phase : Option Phase) → (IsServable phase → S) → Ends S now t set →
+    Step (Staged now S t set phase) AnyClocks mode
 stage_step mode now S t set phase serves ends st what is has =
     let taken : At now (take_due st.base) = has.base.0 in
     fallen_keeps (Staged now S t set phase) AnyClocks (stage_settles now S t set phase serves) mode st what has.few tt
@@ -199,7 +208,8 @@ stage_step mode now S t set phase serves ends st what is has =
 -- ---- a tick
 
 -- what a tick makes of a wait
-pub tick_stage : (mode : Mode) (st : State) (S : Type 0) (t : ℕ) (set : Option ℕ) (phase : Option Phase) → FewDevices (parts_of st) → (IsServable phase → S) → Ends S (st.base.time + 1) t set → Stage S t set phase st.base →
+pub tick_stage : (mode : Mode) (st : State) (S : Type 0) (t : ℕ) (set : Option ℕ) (phase : Option Phase) → FewDevices (parts_of st) → (IsServable phase → S) →
+    Ends S (st.base.time + 1) t set → Stage S t set phase st.base →
     Stage S t set phase (tick_state mode st).base
 tick_stage mode st S t set phase few serves ends has =
     (tick_keeps (Staged (st.base.time + 1) S t set phase) AnyClocks mode (stage_step mode (st.base.time + 1) S t set phase serves ends) st few tt
@@ -229,18 +239,21 @@ unserved object t set phase b waits below (inl is) = is
 unserved object t set phase b waits below (inr (inl over)) = absurd (not_servable object phase waits below over.0)
 unserved object t set phase b waits below (inr (inr moved)) = absurd (not_servable object phase waits below (moved_servable t phase b moved))
 
-still : (mode : Mode) (st : State) (t object : ℕ) → FewDevices (parts_of st) → waits_for st.base object t ≡ true → object < 64 → ComesAfter (st.base.time + 1) (limit_of t st.base.events) →
+still : (mode : Mode) (st : State) (t object : ℕ) → FewDevices (parts_of st) → waits_for st.base object t ≡ true → object < 64 →
+    ComesAfter (st.base.time + 1) (limit_of t st.base.events) →
     IsSet t (limit_of t st.base.events) (phase_at st.base t) (tick_state mode st).base
 still mode st t object few waits below early =
     unserved object t (limit_of t st.base.events) (phase_at st.base t) (tick_state mode st).base (sym (object_of_phase st.base object t) ∙ waits) below (after_tick mode st t few early)
 
 -- a tick that comes before the end of a wait that nothing serves leaves it set, and sets none
-pub tick_leaves_set : (mode : Mode) (st : State) (t object : ℕ) → FewDevices (parts_of st) → waits_for st.base object t ≡ true → object < 64 → ComesAfter (st.base.time + 1) (limit_of t st.base.events) →
+pub tick_leaves_set : (mode : Mode) (st : State) (t object : ℕ) → FewDevices (parts_of st) → waits_for st.base object t ≡ true → object < 64 →
+    ComesAfter (st.base.time + 1) (limit_of t st.base.events) →
     limit_of t (tick_state mode st).base.events ≡ limit_of t st.base.events
 tick_leaves_set mode st t object few waits below early = (still mode st t object few waits below early).0
 
 -- and leaves its task waiting
-pub tick_leaves_waiting : (mode : Mode) (st : State) (t object : ℕ) → FewDevices (parts_of st) → waits_for st.base object t ≡ true → object < 64 → ComesAfter (st.base.time + 1) (limit_of t st.base.events) →
+pub tick_leaves_waiting : (mode : Mode) (st : State) (t object : ℕ) → FewDevices (parts_of st) → waits_for st.base object t ≡ true → object < 64 →
+    ComesAfter (st.base.time + 1) (limit_of t st.base.events) →
     waits_for (tick_state mode st).base object t ≡ true
 tick_leaves_waiting mode st t object few waits below early =
     object_of_phase (tick_state mode st).base object t ∙ ap (phase_waits object) (still mode st t object few waits below early).1 ∙ sym (object_of_phase st.base object t) ∙ waits
@@ -253,7 +266,8 @@ has_moved t b c moved = record {
   unlimited = moved.unlimited;
 }
 
-left_or_over : (S : Type 0) (t : ℕ) (set : Option ℕ) (b c : Base) → Stage S t set (phase_at b t) c → ((limit_of t c.events ≡ set) × (is_waiting c t ≡ is_waiting b t)) ⊎ ((is_waiting c t ≡ false) ⊎ HasMoved b c t)
+left_or_over : (S : Type 0) (t : ℕ) (set : Option ℕ) (b c : Base) → Stage S t set (phase_at b t) c →
+    ((limit_of t c.events ≡ set) × (is_waiting c t ≡ is_waiting b t)) ⊎ ((is_waiting c t ≡ false) ⊎ HasMoved b c t)
 left_or_over S t set b c (inl is) = inl (is.0, any_of_phase c t ∙ ap waits_for_any is.1 ∙ sym (any_of_phase b t))
 left_or_over S t set b c (inr (inl over)) = inr (inl over.1)
 left_or_over S t set b c (inr (inr moved)) = inr (inr (has_moved t b c moved))

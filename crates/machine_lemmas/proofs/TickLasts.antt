@@ -73,7 +73,8 @@ wait_begun b t object order n k at = record {
       (ap (waiting_in object) (entry_there b.tasks t k (Some (record k { phase = Waiting object; queue = order })) at) ∙ itself object);
 }
 
-waits_after : (mode : Mode) (st : State) (t object now due passed : ℕ) → FewDevices (parts_of st) → object < 64 → now + passed < due → WaitsOn now t object due st.base → WaitsOn (now + passed) t object due (after_ticks mode passed st).base
+waits_after : (mode : Mode) (st : State) (t object now due passed : ℕ) → FewDevices (parts_of st) → object < 64 → now + passed < due → WaitsOn now t object due st.base →
+    WaitsOn (now + passed) t object due (after_ticks mode passed st).base
 waits_after mode st t object now due zero few below early is = record { at = is.at ∙ omega arith; limit = is.limit; waits = is.waits }
 waits_after mode st t object now due (suc passed) few below early is =
     let before : WaitsOn (now + passed) t object due (after_ticks mode passed st).base = waits_after mode st t object now due passed few below (omega (arith, early)) is in
@@ -88,7 +89,8 @@ waits_after mode st t object now due (suc passed) few below early is =
     }
 
 -- through the ticks of its limit a task waits on that nothing serves
-pub wait_lasts : (mode : Mode) (st : State) (t object : ℕ) (order : Order) (n passed : ℕ) (k : Task) → FewDevices (parts_of st) → task_at st.base t ≡ Some k → object < 64 → passed ≤ n →
+pub wait_lasts : (mode : Mode) (st : State) (t object : ℕ) (order : Order) (n passed : ℕ) (k : Task) → FewDevices (parts_of st) → task_at st.base t ≡ Some k → object < 64 →
+    passed ≤ n →
     is_waiting (after_ticks mode passed (record st { base = make_wait st.base t object order (pos n) })).base t ≡ true
 wait_lasts mode st t object order n passed k few at below within =
     let first : State = record st { base = make_wait st.base t object order (pos n) } in
@@ -98,14 +100,16 @@ wait_lasts mode st t object order n passed k few at below within =
 -- ---- a wait that is over
 
 -- through any ticks a wait's end stays set, or the wait is over, or has moved
-stage_after : (mode : Mode) (st : State) (t due : ℕ) (b : Base) (passed : ℕ) → FewDevices (parts_of st) → AnyStage t due b st.base → AnyStage t due b (after_ticks mode passed st).base
+stage_after : (mode : Mode) (st : State) (t due : ℕ) (b : Base) (passed : ℕ) → FewDevices (parts_of st) → AnyStage t due b st.base →
+    AnyStage t due b (after_ticks mode passed st).base
 stage_after mode st t due b zero few has = has
 stage_after mode st t due b (suc passed) few has = tick_any_stage mode (after_ticks mode passed st) t due b (few_after mode st passed few) (stage_after mode st t due b passed few has)
 
 wait_time : (b : Base) (t object : ℕ) (order : Order) (n : ℕ) → (make_wait b t object order (pos n)).time ≡ b.time
 wait_time b t object order n = entry_cases (λ c. c.time ≡ b.time) (task_at b t) b _ refl (λ k at. refl)
 
-begun_cases : (b : Base) (t object : ℕ) (order : Order) (n : ℕ) (o : Option Task) → task_at b t ≡ o → AnyStage t (b.time + n + 1) (make_wait b t object order (pos n)) (make_wait b t object order (pos n))
+begun_cases : (b : Base) (t object : ℕ) (order : Order) (n : ℕ) (o : Option Task) → task_at b t ≡ o →
+    AnyStage t (b.time + n + 1) (make_wait b t object order (pos n)) (make_wait b t object order (pos n))
 begun_cases b t object order n None at =
     entry_split (λ c. AnyStage t (b.time + n + 1) c c) (task_at b t) b _ (λ none. inr (inl (tt, ap waits_somewhere none))) (λ k there. absurd (cc (at, there)))
 begun_cases b t object order n (Some k) at = inl ((wait_begun b t object order n k at).limit, refl)
@@ -136,7 +140,8 @@ row_apart object other None its apart = refl
 row_apart object other (Some k) its apart = phase_apart object other k.phase its apart
 
 -- a wait that begins is for its object alone
-begun_apart : (b : Base) (t object other : ℕ) (order : Order) (n : ℕ) (o : Option Task) → task_at b t ≡ o → (object ≡ other → ⊥) → waits_for (make_wait b t object order (pos n)) other t ≡ false
+begun_apart : (b : Base) (t object other : ℕ) (order : Order) (n : ℕ) (o : Option Task) → task_at b t ≡ o → (object ≡ other → ⊥) →
+    waits_for (make_wait b t object order (pos n)) other t ≡ false
 begun_apart b t object other order n None at apart =
     entry_split (λ c. waits_for c other t ≡ false) (task_at b t) b _ (λ none. ap (waiting_in other) none) (λ k there. absurd (cc (at, there)))
 begun_apart b t object other order n (Some k) at apart =

@@ -29,20 +29,24 @@ not_its t (Wait other) apart = let differs : other ≡ t → ⊥ = λ e. apart (
 not_its t (Cyclic n) apart = refl
 not_its t (Alarm n) apart = refl
 
+-- the end of one task's wait isn't that of another one's
 pub other_wait : (t u : ℕ) (what : Event) → (u ≡ t → ⊥) → is_wait_of u what ≡ true → is_wait_of t what ≡ false
 other_wait t u (Wait other) apart is = grind (arith, nat_tests, apart, is)
 other_wait t u (Cyclic n) apart is = refl
 other_wait t u (Alarm n) apart is = refl
 
+-- what isn't the end of the wait has no part in its limit
 pub limit_rest : (t : ℕ) (first : DueEvent) (rest : List DueEvent) → ends_wait_of t first ≡ false → limit_of t (first ∷ rest) ≡ limit_of t rest
 limit_rest t first rest is = ap (λ here. option_map (λ (event : DueEvent). event.time) (cond here (Some first) (find (ends_wait_of t) rest))) is
 
-taken_if : (t : ℕ) (what : Event) (first : DueEvent) (rest : List DueEvent) (due : Bool) → cond due (Some first.what) None ≡ Some what → is_wait_of t what ≡ false → limit_of t (cond due rest (first ∷ rest)) ≡ limit_of t (first ∷ rest)
+taken_if : (t : ℕ) (what : Event) (first : DueEvent) (rest : List DueEvent) (due : Bool) → cond due (Some first.what) None ≡ Some what → is_wait_of t what ≡ false →
+    limit_of t (cond due rest (first ∷ rest)) ≡ limit_of t (first ∷ rest)
 taken_if t what first rest true taken other = let same : first.what ≡ what = cc taken in sym (limit_rest t first rest (ap (is_wait_of t) same ∙ other))
 taken_if t what first rest false taken other = absurd (cc taken)
 
 -- where another event is taken, a wait's end stays set
-pub taken_limit : (t now : ℕ) (events : List DueEvent) (what : Event) → due_event now events ≡ Some what → is_wait_of t what ≡ false → limit_of t (left_after now events) ≡ limit_of t events
+pub taken_limit : (t now : ℕ) (events : List DueEvent) (what : Event) → due_event now events ≡ Some what → is_wait_of t what ≡ false →
+    limit_of t (left_after now events) ≡ limit_of t events
 taken_limit t now [] what taken other = refl
 taken_limit t now (first ∷ rest) what taken other = taken_if t what first rest (nat_le first.time now) taken other
 
@@ -52,7 +56,8 @@ limit_first_if t first kept rest true same = refl
 limit_first_if t first kept rest false same = same
 
 -- an event that is left out, and isn't the end of this wait, leaves its limit
-left_out : (t : ℕ) (first : DueEvent) (kept rest : List DueEvent) (out : Bool) → (out ≡ true → ends_wait_of t first ≡ false) → limit_of t kept ≡ limit_of t rest → limit_of t (cond (not out) (first ∷ kept) kept) ≡ limit_of t (first ∷ rest)
+left_out : (t : ℕ) (first : DueEvent) (kept rest : List DueEvent) (out : Bool) → (out ≡ true → ends_wait_of t first ≡ false) → limit_of t kept ≡ limit_of t rest →
+    limit_of t (cond (not out) (first ∷ kept) kept) ≡ limit_of t (first ∷ rest)
 left_out t first kept rest true other same = same ∙ sym (limit_rest t first rest (other refl))
 left_out t first kept rest false other same = limit_first_if t first kept rest (ends_wait_of t first) same
 
@@ -69,11 +74,13 @@ limit_unset : (t : ℕ) (events : List DueEvent) → limit_of t (without_wait t 
 limit_unset t [] = refl
 limit_unset t (first ∷ rest) = unset_if t t first (without_wait t rest) (ends_wait_of t first) refl (limit_unset t rest)
 
+-- the start of a cyclic handler isn't the end of a wait
 pub not_cyclic : (t id : ℕ) (what : Event) → is_event (Cyclic id) what ≡ true → is_wait_of t what ≡ false
 not_cyclic t id (Wait u) is = absurd (cc is)
 not_cyclic t id (Cyclic n) is = refl
 not_cyclic t id (Alarm n) is = refl
 
+-- a limit stays where a cyclic handler is no longer set
 pub limit_without_cyclic : (t id : ℕ) (events : List DueEvent) → limit_of t (without_event (Cyclic id) events) ≡ limit_of t events
 limit_without_cyclic t id [] = refl
 limit_without_cyclic t id (first ∷ rest) = left_out t first (without_event (Cyclic id) rest) rest (starts (Cyclic id) first) (not_cyclic t id first.what) (limit_without_cyclic t id rest)
@@ -87,7 +94,8 @@ limit_inserted : (t : ℕ) (event : DueEvent) (events : List DueEvent) → ends_
 limit_inserted t event [] other = limit_rest t event [] other
 limit_inserted t event (first ∷ rest) other = put_if t event first rest (insert_event event rest) (nat_lt event.time first.time) other (limit_inserted t event rest other)
 
-limit_later_if : (now t due : ℕ) (first : DueEvent) (rest : List DueEvent) (here : Bool) → now < first.time → option_map (λ (event : DueEvent). event.time) (cond here (Some first) (find (ends_wait_of t) rest)) ≡ Some due → (limit_of t rest ≡ Some due → now < due) → now < due
+limit_later_if : (now t due : ℕ) (first : DueEvent) (rest : List DueEvent) (here : Bool) → now < first.time →
+    option_map (λ (event : DueEvent). event.time) (cond here (Some first) (find (ends_wait_of t) rest)) ≡ Some due → (limit_of t rest ≡ Some due → now < due) → now < due
 limit_later_if now t due first rest true after limit more = let same : first.time ≡ due = cc limit in omega arith
 limit_later_if now t due first rest false after limit more = more limit
 
@@ -120,12 +128,15 @@ any_of_row : (o : Option Task) → waits_somewhere o ≡ waits_for_any (option_m
 any_of_row None = refl
 any_of_row (Some k) = refl
 
+-- whether a task waits for an object is told by what it does
 pub object_of_phase : (b : Base) (object t : ℕ) → waits_for b object t ≡ phase_waits object (phase_at b t)
 object_of_phase b object t = object_of_row object (task_at b t)
 
+-- and so is whether it waits at all
 pub any_of_phase : (b : Base) (t : ℕ) → waits_somewhere (task_at b t) ≡ waits_for_any (phase_at b t)
 any_of_phase b t = any_of_row (task_at b t)
 
+-- who waits for one object waits
 pub waits_for_one : (object : ℕ) (phase : Option Phase) → phase_waits object phase ≡ true → waits_for_any phase ≡ true
 waits_for_one object None waits = absurd (cc waits)
 waits_for_one object (Some Ready) waits = absurd (cc waits)

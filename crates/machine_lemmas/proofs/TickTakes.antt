@@ -38,7 +38,8 @@ abbrev late : ℕ → List DueEvent → ℕ
 late now [] = 0
 late now (first ∷ rest) = one_if (nat_le first.time now) + late now rest
 
-late_cons : (now : ℕ) (first : DueEvent) (kept rest : List DueEvent) (test : Bool) → late now kept ≤ late now rest → late now (cond test (first ∷ kept) kept) ≤ late now (first ∷ rest)
+late_cons : (now : ℕ) (first : DueEvent) (kept rest : List DueEvent) (test : Bool) → late now kept ≤ late now rest →
+    late now (cond test (first ∷ kept) kept) ≤ late now (first ∷ rest)
 late_cons now first kept rest true fewer = omega (arith, fewer)
 late_cons now first kept rest false fewer = omega (arith, fewer)
 
@@ -57,7 +58,8 @@ late_length now (first ∷ rest) = let here = late_if (nat_le first.time now) in
 later_none : (now : ℕ) (event : DueEvent) → now < event.time → one_if (nat_le event.time now) ≡ 0
 later_none now event later = let not_due : nat_le event.time now ≡ false = grind (arith, nat_tests, later) in ap one_if not_due
 
-late_put : (now : ℕ) (event first : DueEvent) (rest inserted : List DueEvent) (test : Bool) → now < event.time → late now inserted ≤ late now rest → late now (cond test (event ∷ first ∷ rest) (first ∷ inserted)) ≤ late now (first ∷ rest)
+late_put : (now : ℕ) (event first : DueEvent) (rest inserted : List DueEvent) (test : Bool) → now < event.time → late now inserted ≤ late now rest →
+    late now (cond test (event ∷ first ∷ rest) (first ∷ inserted)) ≤ late now (first ∷ rest)
 late_put now event first rest inserted true later same = let none = later_none now event later in omega (arith, none)
 late_put now event first rest inserted false later same = omega (arith, same)
 
@@ -67,9 +69,11 @@ late_inserted now event (first ∷ rest) later = late_put now event first rest (
 
 -- ---- events in order, few of which are due
 
+-- of events in order none falls due before the first
 pub pairs_head : (first : DueEvent) (rest : List DueEvent) → AreInTimeOrder (first ∷ rest) → All (λ event. first.time ≤ event.time) rest
 pairs_head first rest pairs = λ k d within. pairs 0 (suc k) d (omega arith) (omega arith)
 
+-- and the others are in order
 pub pairs_tail : (first : DueEvent) (rest : List DueEvent) → AreInTimeOrder (first ∷ rest) → AreInTimeOrder rest
 pairs_tail first rest pairs = λ i j d before within. pairs (suc i) (suc j) d (omega arith) (omega arith)
 
@@ -118,7 +122,8 @@ none_late now (first ∷ rest) none =
 
 -- ---- what is taken
 
-taken_few : (now most : ℕ) (events : List DueEvent) (due : Bool) → is_due now events ≡ due → due ≡ true → AreFew now (suc most) events → AreFew now most (cond due (drop 1 events) events)
+taken_few : (now most : ℕ) (events : List DueEvent) (due : Bool) → is_due now events ≡ due → due ≡ true → AreFew now (suc most) events →
+    AreFew now most (cond due (drop 1 events) events)
 taken_few now most [] due is taken are = absurd (cc (is, taken))
 taken_few now most (first ∷ rest) false is taken are = absurd (cc taken)
 taken_few now most (first ∷ rest) true is taken are = record {
@@ -129,6 +134,7 @@ taken_few now most (first ∷ rest) true is taken are = record {
       omega (arith, one, bound);
 }
 
+-- where no event is due the first isn't
 pub idle_if : (due : Bool) (now : ℕ) (events : List DueEvent) → is_due now events ≡ due → cond due (first_event events) None ≡ None → is_due now events ≡ false
 idle_if due now [] is none = refl
 idle_if true now (event ∷ events) is none = absurd (cc none)
@@ -146,7 +152,8 @@ taken_at now most b what is has = (
 )
 
 -- an event that falls due leaves one less that is due
-fallen_few : (now most : ℕ) (mode : Mode) (st : State) (what : DueKind) → due_event st.base.time st.base.events ≡ Some what → TickHas (HasAt now (AreFew now (suc most))) ArePeriodic (parts_of st) →
+fallen_few : (now most : ℕ) (mode : Mode) (st : State) (what : DueKind) → due_event st.base.time st.base.events ≡ Some what →
+    TickHas (HasAt now (AreFew now (suc most))) ArePeriodic (parts_of st) →
     TickHas (HasAt now (AreFew now most)) ArePeriodic (parts_of (fallen mode (record st { base = take_due st.base }) what))
 fallen_few now most mode st what is has =
     let taken : HasAt now (AreFew now most) (take_due st.base) = taken_at now most st.base what is has.base in
@@ -156,7 +163,8 @@ fallen_few now most mode st what is has =
 
 -- ---- a tick
 
-next_done : (left now : ℕ) (mode : Mode) (st : State) (due : Option DueKind) → due_event st.base.time st.base.events ≡ due → TickHas (HasAt now (AreFew now (suc left))) ArePeriodic (parts_of st) →
+next_done : (left now : ℕ) (mode : Mode) (st : State) (due : Option DueKind) → due_event st.base.time st.base.events ≡ due →
+    TickHas (HasAt now (AreFew now (suc left))) ArePeriodic (parts_of st) →
     ((later : State) → TickHas (HasAt now (AreFew now left)) ArePeriodic (parts_of later) → AreLater now (due_done left mode later).base.events) → AreLater now (next left mode st due).base.events
 next_done left now mode st None is has rest =
     let idle : due_event now st.base.events ≡ None = ap (λ at. due_event at st.base.events) (sym has.base.0) ∙ is in
@@ -169,7 +177,8 @@ done_by zero now mode st has = none_late now st.base.events has.base.1.few
 done_by (suc left) now mode st has = next_done left now mode st (due_event st.base.time st.base.events) refl has (done_by left now mode)
 
 -- nothing is left after a tick that falls due by the time that it makes
-pub tick_takes_all : (mode : Mode) (st : State) → FewDevices (parts_of st) → ArePeriodic st.objects.clocks → AreInTimeOrder st.base.events → AreLater (st.base.time + 1) (tick_state mode st).base.events
+pub tick_takes_all : (mode : Mode) (st : State) → FewDevices (parts_of st) → ArePeriodic st.objects.clocks → AreInTimeOrder st.base.events →
+    AreLater (st.base.time + 1) (tick_state mode st).base.events
 tick_takes_all mode st few periods order =
     done_by (length st.base.events) (st.base.time + 1) mode (record st { base = advance st.base }) (record {
       base = (refl, record { order = order; few = late_length (st.base.time + 1) st.base.events });

@@ -79,13 +79,15 @@ next_keeps : (P : Base → Type 0) (Q : Clocks → Type 0) (left : ℕ) (mode : 
 next_keeps P Q left mode st None step rest is has = has
 next_keeps P Q left mode st (Some what) step rest is has = rest (fallen mode (record st { base = take_due st.base }) what) (step st what is has)
 
-done_keeps : (P : Base → Type 0) (Q : Clocks → Type 0) (mode : Mode) → Step P Q mode → (left : ℕ) (st : State) → TickHas P Q (parts_of st) → TickHas P Q (parts_of (due_done left mode st))
+done_keeps : (P : Base → Type 0) (Q : Clocks → Type 0) (mode : Mode) → Step P Q mode → (left : ℕ) (st : State) → TickHas P Q (parts_of st) →
+    TickHas P Q (parts_of (due_done left mode st))
 unfolding due_done
 done_keeps P Q mode step zero st has = has
 done_keeps P Q mode step (suc left) st has = next_keeps P Q left mode st (due_event st.base.time st.base.events) step (done_keeps P Q mode step left) refl has
 
 -- what each event keeps that falls due in a tick, a tick keeps
-pub tick_keeps : (P : Base → Type 0) (Q : Clocks → Type 0) (mode : Mode) → Step P Q mode → (st : State) → FewDevices (parts_of st) → Q st.objects.clocks → P (advance st.base) → TickHas P Q (parts_of (tick_state mode st))
+pub tick_keeps : (P : Base → Type 0) (Q : Clocks → Type 0) (mode : Mode) → Step P Q mode → (st : State) → FewDevices (parts_of st) → Q st.objects.clocks → P (advance st.base) →
+    TickHas P Q (parts_of (tick_state mode st))
 tick_keeps P Q mode step st few clocks has = done_keeps P Q mode step (length st.base.events) (record st { base = advance st.base }) (record { base = has; few = few; clocks = clocks })
 
 -- ---- the time and the events
