@@ -4,3 +4,4 @@
 pub mod laws;
 pub mod services;
 pub mod waits;
+pub mod ticks;

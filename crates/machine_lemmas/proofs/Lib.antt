@@ -19,3 +19,11 @@ pub mod KeptOnce
 pub mod BaseKept
 pub mod ReachedRest
 pub mod ContextsKept
+pub mod TickReached
+pub mod TickClocks
+pub mod TickWalk
+pub mod TickTakes
+pub mod TickLimits
+pub mod TickEnds
+pub mod TickAhead
+pub mod TickLasts

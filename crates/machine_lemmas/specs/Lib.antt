@@ -1,3 +1,4 @@
 pub mod Weights
 pub mod Strict
 pub mod Taken
+pub mod TickTimes
