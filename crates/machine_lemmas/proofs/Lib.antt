@@ -17,3 +17,5 @@ pub mod Pending
 pub mod KeptOnce
 pub mod BaseKept
 pub mod ReachedRest
+pub mod PlacesOwned
+pub mod PlacesSettled
