@@ -19,3 +19,6 @@ pub mod BaseKept
 pub mod ReachedRest
 pub mod PlacesOwned
 pub mod PlacesSettled
+pub mod PlacesEvents
+pub mod PlacesCeilings
+pub mod PlacesKept

@@ -35,7 +35,8 @@ held_none : (m : Mutexes) (t : ℕ) (ids : List ℕ) → OwnsNone t m → filter
 held_none m t [] none = refl
 held_none m t (id ∷ ids) none = passed_if id _ (owner_of m id == t) (λ is. none id (same_number (owner_of m id) t is)) ∙ held_none m t ids none
 
-heir_if : (inherits : Bool) (owner t : ℕ) → 1 ≤ t → (owner ≡ t → ⊥) → cond inherits owner 0 ≡ t → ⊥
+-- the heir of a mutex is its owner or nobody
+pub heir_if : (inherits : Bool) (owner t : ℕ) → 1 ≤ t → (owner ≡ t → ⊥) → cond inherits owner 0 ≡ t → ⊥
 heir_if true owner t one none is = none is
 heir_if false owner t one none is = omega (arith, one, is)
 
@@ -43,7 +44,8 @@ no_heir : (o : Option Mutex) (t : ℕ) → 1 ≤ t → (owner_in o ≡ t → ⊥
 no_heir None t one none is = none is
 no_heir (Some k) t one none is = heir_if k.inherits k.owner t one none is
 
-second : (first second : Bool) → (first && second) ≡ true → second ≡ true
+-- the second of two tests
+pub second : (first second : Bool) → (first && second) ≡ true → second ≡ true
 second true later is = is
 second false later is = absurd (cc is)
 
@@ -52,7 +54,7 @@ same_unless u t true goes later at is never = same_number u t at
 same_unless u t false goes later at is never = absurd (never (second goes later is))
 
 -- where no chain goes on with a task, only its own has it
-chain_alone : (next : ℕ → ℕ) (t u n : ℕ) → ((v : ℕ) → next v ≡ t → ⊥) → chain_has next t n u ≡ true → u ≡ t
+pub chain_alone : (next : ℕ → ℕ) (t u n : ℕ) → ((v : ℕ) → next v ≡ t → ⊥) → chain_has next t n u ≡ true → u ≡ t
 unfolding chain_has
 chain_alone next t u zero none is = same_number u t is
 chain_alone next t u (suc n) none is =

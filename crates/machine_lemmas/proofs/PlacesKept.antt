@@ -1,0 +1,85 @@
+-- The clauses of the law: a ready task that is the first of its equals, has the priority of its definition and owns no
+-- inheritance mutex stays the first of its equals.
+use Rattle.std.proofs.Common.{◌≡◌, ℕ, ◌≤◌, ◌+◌, ◌-◌, length, List, [], ◌∷◌, Option, Some, true, ℤ, refl, ap, ◌∙◌, sym}
+use Rattle.std.specs.Prelude.{drop}
+use Rattle.tk_types.specs.declared.run.Mode.{Mode}
+use Rattle.tk_types.specs.declared.script.Script.{Script}
+use Rattle.tk_types.specs.declared.task.Event.{Event as DueKind}
+use Rattle.tk_types.specs.declared.task.Task.{Task}
+use Rattle.kernel_model.specs.LawWords.Precedence.{KeepsPlace}
+use Rattle.kernel_model.specs.Tasks.Base.{Base, base_in, current, current_in, is_ready, may_run, task_at}
+use Rattle.object_model.specs.Mutexes.Tables.{Mutexes, mutex_at}
+use Rattle.object_model.specs.Mutexes.Priority.{current_of, heir_in}
+use Rattle.machine_model.specs.declared.turns.Turn.{Turn}
+use Rattle.machine_model.specs.declared.turns.Turn.TheVariants as turns
+use Rattle.machine_model.specs.States.Objects.{Parts}
+use Rattle.machine_model.specs.States.State.{State, parts_of}
+use Rattle.machine_model.specs.Events.Follow.{followed}
+use Rattle.machine_model.specs.Runs.Turns.{done_turn, turn_of}
+use Rattle.machine_model.specs.Runs.Step.{made_pending, worked}
+use Rattle.machine_lemmas.proofs.PlacesCeilings.{IsAlone, LendsNone, alone_from, alone_settles}
+use Rattle.machine_lemmas.proofs.PlacesEvents.{Stands, stands_due_begun, stands_followed, stands_interrupt, stands_tick}
+use Rattle.machine_lemmas.proofs.PlacesSettled.{HasPlace, IsInPlace, Settles}
+use Rattle.machine_lemmas.proofs.Walk.{pending_has}
+
+-- the task is ready, the first of its equals, has the priority of its definition, and owns no inheritance mutex
+pub record IsPreempted (t : ℕ) (p : Parts) : Type 0 where
+  pub least : 1 ≤ t
+  pub few : length p.objects.devices.links ≤ 9
+  pub place : KeepsPlace p.base t
+  pub ready : is_ready p.base t ≡ true
+  pub fresh : current p.base t ≡ current_of p.base p.objects.mutexes t
+  pub heirs : LendsNone t p.objects.mutexes
+
+-- what is said of its mutexes
+abbrev pub Alone : ℕ → Parts → Mutexes → Type 0
+Alone t p = IsAlone t (base_in (task_at p.base t)) (current_in (task_at p.base t))
+
+-- it stands, with its row
+abbrev pub StandsAs : ℕ → Parts → Parts → Type 0
+StandsAs t p q = Stands (task_at p.base t) t (Alone t p) q
+
+-- so it stands at first
+pub stands_first : (t : ℕ) (p : Parts) → IsPreempted t p → StandsAs t p p
+stands_first t p is = record {
+  place = record { base = record { is = refl; place = is.place }; mutexes = alone_from p.base p.objects.mutexes t is.ready is.heirs is.fresh };
+  few = is.few;
+}
+
+-- and its priority by definition never differs on the way
+pub settles_first : (t : ℕ) (p : Parts) → IsPreempted t p → Settles (task_at p.base t) t (Alone t p)
+settles_first t p is = alone_settles (task_at p.base t) t is.least is.ready
+
+-- what stands then is preempted still
+pub preempted_then : (t : ℕ) (p q : Parts) → IsPreempted t p → StandsAs t p q → IsPreempted t q
+preempted_then t p q is has = record {
+  least = is.least;
+  few = has.few;
+  place = has.place.base.place;
+  ready = ap may_run has.place.base.is ∙ is.ready;
+  fresh = ap current_in has.place.base.is ∙ sym ((settles_first t p is).priority q.base q.objects.mutexes has.place.base.is has.place.mutexes);
+  heirs = has.place.mutexes.heirs;
+}
+
+-- ---- a whole step
+
+-- a turn in which no body goes on
+abbrev pub IsNoStatement : Turn → Type 0
+IsNoStatement turn = (turn ≡ turns.Handler → ⊥) × ((u : ℕ) → turn ≡ turns.Task u → ⊥)
+
+stands_turn : (row : Option Task) (t : ℕ) (Q : Mutexes → Type 0) (script : Script) (mode : Mode) (n : ℕ) (st : State) (turn : Turn) → Settles row t Q → IsNoStatement turn → Stands row t Q (parts_of st) → Stands row t Q (parts_of (done_turn script mode n st turn).state)
+unfolding done_turn
+stands_turn row t Q script mode n st turns.Handler settles none has = absurd (none.0 refl)
+stands_turn row t Q script mode n st (turns.Due what) settles none has = stands_due_begun row t Q n (record st { due = drop 1 st.due }) what has
+stands_turn row t Q script mode n st turns.Tick settles none has = stands_tick row t Q mode n (record st { ticks = st.ticks - 1 }) settles has
+stands_turn row t Q script mode n st (turns.Interrupt number) settles none has = stands_interrupt row t Q n st number has
+stands_turn row t Q script mode n st (turns.Task u) settles none has = absurd (none.1 u refl)
+stands_turn row t Q script mode n st turns.Idle settles none has = stands_tick row t Q mode n st settles has
+
+-- a step with all that follows it, where no body goes on
+pub stands_worked : (row : Option Task) (t : ℕ) (Q : Mutexes → Type 0) (script : Script) (mode : Mode) (n : ℕ) (st : State) → Settles row t Q → IsNoStatement (turn_of (made_pending script n st)) → Stands row t Q (parts_of st) → Stands row t Q (parts_of (worked script mode n st).state)
+unfolding worked
+stands_worked row t Q script mode n st settles none has =
+    let pending : State = made_pending script n st in
+    stands_followed row t Q script mode n (done_turn script mode n pending (turn_of pending)).state settles
+    (stands_turn row t Q script mode n pending (turn_of pending) settles none (pending_has (Stands row t Q) script n st has))
