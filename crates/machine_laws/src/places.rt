@@ -1,0 +1,81 @@
+//! The law that a preempted task keeps its place, over the whole machine.
+
+ghost use Rattle.std.specs.Prelude.{◌≡◌, ℕ, ◌≤◌, true, length, Some};
+ghost use Rattle.tk_types.specs.declared.run.Mode.{Mode};
+ghost use Rattle.tk_types.specs.declared.script.Script.{Script};
+ghost use Rattle.tk_types.specs.declared.task.Event.{Event as DueKind};
+ghost use Rattle.kernel_model.specs.LawWords.Precedence.{KeepsPlace};
+ghost use Rattle.kernel_model.specs.Tasks.Base.{base_of, current, is_ready, task_at};
+ghost use Rattle.object_model.specs.Mutexes.Tables.{mutex_at, owner_of};
+ghost use Rattle.object_model.specs.Mutexes.Priority.{current_of, heir_in};
+ghost use Rattle.device_model.specs.declared.messages.Ending.{Ending};
+ghost use Rattle.machine_model.specs.Events.Arrivals.{arrived};
+ghost use Rattle.machine_model.specs.Events.Bodies.{handler_ended};
+ghost use Rattle.machine_model.specs.Events.Calls.{without_holdings};
+ghost use Rattle.machine_model.specs.Events.Follow.{Event, followed};
+ghost use Rattle.machine_model.specs.Events.Handlers.{due_begun, interrupt_begun};
+ghost use Rattle.machine_model.specs.Events.Settle.{settle};
+ghost use Rattle.machine_model.specs.Events.Ticks.{tick};
+ghost use Rattle.machine_model.specs.Runs.Step.{made_pending, worked};
+ghost use Rattle.machine_model.specs.Runs.Turns.{turn_of};
+ghost use Rattle.machine_model.specs.States.Objects.{Parts};
+ghost use Rattle.machine_model.specs.States.State.{State};
+ghost use Rattle.machine_model.specs.declared.turns.Turn.TheVariants as turns;
+
+/// A task that is preempted keeps its place. Where a task is ready and the first of its equals, has the priority of its
+/// definition, and owns no mutex that inherits (others it may own), it stays the first of its equals through settling, whoever
+/// is served and whatever becomes of others' priorities (`settled`); through a whole tick (`tick`); through the start of a
+/// handler and its end, which ask for neither (`due`, `interrupt`, `ended`); through all that follows an event, also while
+/// dispatching is delayed (`follows`); while another task that ended frees its mutexes (`freed`); through the arrival of an
+/// ending (`arrives`); and through a whole step in which no body goes on (`step`). After such a step all that is asked of the
+/// task holds again, so through any number of them (`still_same`, `still_fresh`, `still_alone`).
+///
+/// A task that owns no mutex has the priority of its base (`owning_none`), and settling leaves it owning none
+/// (`still_owning_none`).
+pub fn preempted_task_keeps_its_place()
+    ensures settled { (mode : Mode) (p : Parts) (t : ℕ) → 1 ≤ t → length p.objects.devices.links ≤ 9 → KeepsPlace p.base t → is_ready p.base t ≡ true →
+        current p.base t ≡ current_of p.base p.objects.mutexes t → ((id : ℕ) → heir_in (mutex_at p.objects.mutexes id) ≡ t → ⊥) →
+        KeepsPlace (settle mode p).base t }
+    ensures tick { (mode : Mode) (n : ℕ) (st : State) (t : ℕ) → 1 ≤ t → length st.objects.devices.links ≤ 9 → KeepsPlace st.base t → is_ready st.base t ≡ true →
+        current st.base t ≡ current_of st.base st.objects.mutexes t → ((id : ℕ) → heir_in (mutex_at st.objects.mutexes id) ≡ t → ⊥) →
+        KeepsPlace (tick mode n st).state.base t }
+    ensures due { (n : ℕ) (st : State) (what : DueKind) (t : ℕ) → KeepsPlace st.base t → KeepsPlace (due_begun n st what).state.base t }
+    ensures interrupt { (n : ℕ) (st : State) (number t : ℕ) → KeepsPlace st.base t → KeepsPlace (interrupt_begun n st number).state.base t }
+    ensures ended { (st : State) (t : ℕ) → KeepsPlace st.base t → KeepsPlace (handler_ended st).base t }
+    ensures follows { (script : Script) (mode : Mode) (n : ℕ) (st : State) (t : ℕ) → 1 ≤ t → length st.objects.devices.links ≤ 9 → KeepsPlace st.base t →
+        is_ready st.base t ≡ true → current st.base t ≡ current_of st.base st.objects.mutexes t →
+        ((id : ℕ) → heir_in (mutex_at st.objects.mutexes id) ≡ t → ⊥) →
+        KeepsPlace (followed script mode n st).state.base t }
+    ensures freed { (mode : Mode) (st : State) (t other : ℕ) → 1 ≤ t → length st.objects.devices.links ≤ 9 → KeepsPlace st.base t → is_ready st.base t ≡ true →
+        current st.base t ≡ current_of st.base st.objects.mutexes t → ((id : ℕ) → heir_in (mutex_at st.objects.mutexes id) ≡ t → ⊥) →
+        (other ≡ t → ⊥) → KeepsPlace (without_holdings mode st other).base t }
+    ensures arrives { (script : Script) (mode : Mode) (st : State) (ending : Ending) (event : Event) (t : ℕ) → 1 ≤ t → length st.objects.devices.links ≤ 9 →
+        KeepsPlace st.base t → is_ready st.base t ≡ true → current st.base t ≡ current_of st.base st.objects.mutexes t →
+        ((id : ℕ) → heir_in (mutex_at st.objects.mutexes id) ≡ t → ⊥) →
+        arrived script mode st ending ≡ Some event → KeepsPlace event.state.base t }
+    ensures step { (script : Script) (mode : Mode) (n : ℕ) (st : State) (t : ℕ) → 1 ≤ t → length st.objects.devices.links ≤ 9 → KeepsPlace st.base t →
+        is_ready st.base t ≡ true → current st.base t ≡ current_of st.base st.objects.mutexes t →
+        ((id : ℕ) → heir_in (mutex_at st.objects.mutexes id) ≡ t → ⊥) →
+        (turn_of (made_pending script n st) ≡ turns.Handler → ⊥) → ((u : ℕ) → turn_of (made_pending script n st) ≡ turns.Task u → ⊥) →
+        KeepsPlace (worked script mode n st).state.base t }
+    ensures still_same { (script : Script) (mode : Mode) (n : ℕ) (st : State) (t : ℕ) → 1 ≤ t → length st.objects.devices.links ≤ 9 → KeepsPlace st.base t →
+        is_ready st.base t ≡ true → current st.base t ≡ current_of st.base st.objects.mutexes t →
+        ((id : ℕ) → heir_in (mutex_at st.objects.mutexes id) ≡ t → ⊥) →
+        (turn_of (made_pending script n st) ≡ turns.Handler → ⊥) → ((u : ℕ) → turn_of (made_pending script n st) ≡ turns.Task u → ⊥) →
+        task_at (worked script mode n st).state.base t ≡ task_at st.base t }
+    ensures still_fresh { (script : Script) (mode : Mode) (n : ℕ) (st : State) (t : ℕ) → 1 ≤ t → length st.objects.devices.links ≤ 9 → KeepsPlace st.base t →
+        is_ready st.base t ≡ true → current st.base t ≡ current_of st.base st.objects.mutexes t →
+        ((id : ℕ) → heir_in (mutex_at st.objects.mutexes id) ≡ t → ⊥) →
+        (turn_of (made_pending script n st) ≡ turns.Handler → ⊥) → ((u : ℕ) → turn_of (made_pending script n st) ≡ turns.Task u → ⊥) →
+        let left = (worked script mode n st).state in current left.base t ≡ current_of left.base left.objects.mutexes t }
+    ensures still_alone { (script : Script) (mode : Mode) (n : ℕ) (st : State) (t : ℕ) → 1 ≤ t → length st.objects.devices.links ≤ 9 → KeepsPlace st.base t →
+        is_ready st.base t ≡ true → current st.base t ≡ current_of st.base st.objects.mutexes t →
+        ((id : ℕ) → heir_in (mutex_at st.objects.mutexes id) ≡ t → ⊥) →
+        (turn_of (made_pending script n st) ≡ turns.Handler → ⊥) → ((u : ℕ) → turn_of (made_pending script n st) ≡ turns.Task u → ⊥) →
+        (id : ℕ) → heir_in (mutex_at (worked script mode n st).state.objects.mutexes id) ≡ t → ⊥ }
+    ensures owning_none { (p : Parts) (t : ℕ) → 1 ≤ t → ((id : ℕ) → owner_of p.objects.mutexes id ≡ t → ⊥) →
+        current_of p.base p.objects.mutexes t ≡ base_of p.base t }
+    ensures still_owning_none { (mode : Mode) (p : Parts) (t : ℕ) → 1 ≤ t → length p.objects.devices.links ≤ 9 → KeepsPlace p.base t → is_ready p.base t ≡ true →
+        current p.base t ≡ base_of p.base t → ((id : ℕ) → owner_of p.objects.mutexes id ≡ t → ⊥) →
+        (id : ℕ) → owner_of (settle mode p).objects.mutexes id ≡ t → ⊥ }
+{}
