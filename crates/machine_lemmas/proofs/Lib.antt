@@ -22,3 +22,6 @@ pub mod PlacesSettled
 pub mod PlacesEvents
 pub mod PlacesCeilings
 pub mod PlacesKept
+pub mod PlacesMoves
+pub mod PlacesMails
+pub mod PlacesPools
