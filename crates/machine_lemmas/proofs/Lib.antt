@@ -25,3 +25,6 @@ pub mod PlacesKept
 pub mod PlacesMoves
 pub mod PlacesMails
 pub mod PlacesPools
+pub mod PlacesContexts
+pub mod PlacesTimes
+pub mod PlacesDevices
