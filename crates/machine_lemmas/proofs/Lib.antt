@@ -28,3 +28,5 @@ pub mod PlacesPools
 pub mod PlacesContexts
 pub mod PlacesTimes
 pub mod PlacesDevices
+pub mod PlacesSemFlags
+pub mod PlacesCalls
