@@ -30,3 +30,4 @@ pub mod PlacesTimes
 pub mod PlacesDevices
 pub mod PlacesSemFlags
 pub mod PlacesCalls
+pub mod PlacesMutexes

@@ -40,9 +40,13 @@ use Rattle.machine_lemmas.proofs.Servings.{FewDevices}
 abbrev pub StandsIf : Option Task → ℕ → (Mutexes → Type 0) → Parts → Type 0
 StandsIf row t Q p = is_ready p.base t ≡ true → Stands row t Q p
 
+-- a call on no tasks
+abbrev pub IsNoTask : Call → Type 0
+IsNoTask call = (it : TaskCall) → call ≡ calls.Task it → ⊥
+
 -- a call on neither tasks nor mutexes
 abbrev pub IsOther : Call → Type 0
-IsOther call = ((it : TaskCall) → call ≡ calls.Task it → ⊥) × ((it : MutexCall) → call ≡ calls.Mutex it → ⊥)
+IsOther call = IsNoTask call × ((it : MutexCall) → call ≡ calls.Mutex it → ⊥)
 
 -- the base has the task in its place where it is ready, and the mutexes are as they were
 stands_if : (row : Option Task) (t : ℕ) (Q : Mutexes → Type 0) (p : Parts) → PlaceIfReady row t p.base → Q p.objects.mutexes → FewDevices p → StandsIf row t Q p
@@ -94,20 +98,20 @@ undefined_has P st (context.DefSsy number body) has = has
 undefined_has P st (context.RefSsy number) has = has
 undefined_has P st (context.Svc number value) has = has
 
-noted_has : (P : Parts → Type 0) (st : State) (u : ℕ) (c : Call) (value : ℤ) → IsOther c → Has P st → Has P (noted st u c value)
-noted_has P st u (calls.Task c) value other has = absurd (other.0 c refl)
+noted_has : (P : Parts → Type 0) (st : State) (u : ℕ) (c : Call) (value : ℤ) → IsNoTask c → Has P st → Has P (noted st u c value)
+noted_has P st u (calls.Task c) value other has = absurd (other c refl)
 noted_has P st u (calls.Time c) value other has = state_if (Has P) (int_eq value (pos 0)) (withdrawn st c) st (withdrawn_has P st c has) has
 noted_has P st u (calls.Context c) value other has = state_if (Has P) (int_eq value (pos 0)) (undefined st c) st (undefined_has P st c has) has
 noted_has P st u _ value other has = has
 
-answered_has : (P : Parts → Type 0) (st : State) (u : ℕ) (c : Call) (outcome : Outcome) → IsOther c → Has P st → Has P (answered st u c outcome)
+answered_has : (P : Parts → Type 0) (st : State) (u : ℕ) (c : Call) (outcome : Outcome) → IsNoTask c → Has P st → Has P (answered st u c outcome)
 unfolding answered entered
 answered_has P st u c (outcomes.Returned result) other has = noted_has P (with_frame st u (give (frame_of st u) result)) u c result.value other has
 answered_has P st u c outcomes.Blocked other has = has
 answered_has P st u c (outcomes.Entered body) other has = has
 
-ends_none : (u : ℕ) (c : Call) (outcome : Outcome) → IsOther c → ended_by u c outcome ≡ 0
-ends_none u (calls.Task c) outcome other = absurd (other.0 c refl)
+ends_none : (u : ℕ) (c : Call) (outcome : Outcome) → IsNoTask c → ended_by u c outcome ≡ 0
+ends_none u (calls.Task c) outcome other = absurd (other c refl)
 ends_none u (calls.SemFlag c) outcome other = refl
 ends_none u (calls.Mutex c) outcome other = refl
 ends_none u (calls.Mail c) outcome other = refl
@@ -119,13 +123,17 @@ ends_none u (calls.Hook c) outcome other = refl
 
 -- ---- the call
 
+-- what a family's call leaves, a call on no tasks leaves
+pub called_has : (P : Parts → Type 0) (mode : Mode) (n : ℕ) (st : State) (u : ℕ) (c : Call) → IsNoTask c → P (parts_of (family_call st u c).state) → P (parts_of (called mode n st u c).state)
+unfolding called
+called_has P mode n st u c other has =
+    let done = family_call st u c in
+    answered_has P (without_holdings mode done.state (ended_by u c done.outcome)) u c done.outcome other
+    (subst (λ (ended : ℕ). P (parts_of (without_holdings mode done.state ended))) (sym (ends_none u c done.outcome other)) has)
+
 -- a call, before what follows it
 pub called_stands : (row : Option Task) (t : ℕ) (Q : Mutexes → Type 0) (mode : Mode) (n : ℕ) (st : State) (u : ℕ) (c : Call) → may_run row ≡ true → IsOther c → Stands row t Q (parts_of st) → StandsIf row t Q (parts_of (called mode n st u c).state)
-unfolding called
-called_stands row t Q mode n st u c ready other has =
-    let done = family_call st u c in
-    answered_has (StandsIf row t Q) (without_holdings mode done.state (ended_by u c done.outcome)) u c done.outcome other
-    (subst (λ (ended : ℕ). StandsIf row t Q (parts_of (without_holdings mode done.state ended))) (sym (ends_none u c done.outcome other)) (family_stands row t Q st u c ready other has))
+called_stands row t Q mode n st u c ready other has = called_has (StandsIf row t Q) mode n st u c other.0 (family_stands row t Q st u c ready other has)
 
 -- and with all that follows it
 pub called_followed : (row : Option Task) (t : ℕ) (Q : Mutexes → Type 0) (script : Script) (mode : Mode) (n : ℕ) (st : State) (u : ℕ) (c : Call) → Settles row t Q → IsOther c → Stands row t Q (parts_of st) →

@@ -84,10 +84,11 @@ pub record Passes (t : ℕ) (Q : Mutexes → Type 0) : Type 0 where
   pub frees : (m : Mutexes) (id u : ℕ) → owner_of m id ≡ u → (u ≡ t → ⊥) → Q m → Q (freed m id)
 
 -- a slot that isn't this task's is written
-written_none : (m : Mutexes) (t id : ℕ) (slot : Option Mutex) (locks : List ℕ) → OwnsNone t m → 1 ≤ t → (owner_in slot ≡ t → ⊥) → OwnsNone t (record (with_mutex m id slot) { locks = locks })
+pub written_none : (m : Mutexes) (t id : ℕ) (slot : Option Mutex) (locks : List ℕ) → OwnsNone t m → 1 ≤ t → (owner_in slot ≡ t → ⊥) → OwnsNone t (record (with_mutex m id slot) { locks = locks })
 written_none m t id slot locks none one apart = entry_each (λ i o. owner_in o ≡ t → ⊥) m.table id slot (entry_same (λ o. owner_in o ≡ t → ⊥) m.table id slot apart (λ is. omega (arith, one, is))) (λ j differs. none j)
 
-freed_owner : (o : Option Mutex) (t : ℕ) → 1 ≤ t → owner_in (option_map {T = Mutex} (λ k. record k { owner = 0 }) o) ≡ t → ⊥
+-- a mutex that is freed has no owner
+pub freed_owner : (o : Option Mutex) (t : ℕ) → 1 ≤ t → owner_in (option_map {T = Mutex} (λ k. record k { owner = 0 }) o) ≡ t → ⊥
 freed_owner None t one is = omega (arith, one, is)
 freed_owner (Some k) t one is = omega (arith, one, is)
 
