@@ -1,6 +1,10 @@
 //! The law that a preempted task keeps its place, over the whole machine.
 
 ghost use Rattle.std.specs.Prelude.{◌≡◌, ℕ, ◌≤◌, true, length, Some};
+ghost use Rattle.tk_types.specs.declared.calls.Call.{Call};
+ghost use Rattle.tk_types.specs.declared.calls.Call.TheVariants as calls;
+ghost use Rattle.tk_types.specs.declared.calls.MutexCall.{MutexCall};
+ghost use Rattle.tk_types.specs.declared.calls.TaskCall.{TaskCall};
 ghost use Rattle.tk_types.specs.declared.run.Mode.{Mode};
 ghost use Rattle.tk_types.specs.declared.script.Script.{Script};
 ghost use Rattle.tk_types.specs.declared.task.Event.{Event as DueKind};
@@ -11,7 +15,7 @@ ghost use Rattle.object_model.specs.Mutexes.Priority.{current_of, heir_in};
 ghost use Rattle.device_model.specs.declared.messages.Ending.{Ending};
 ghost use Rattle.machine_model.specs.Events.Arrivals.{arrived};
 ghost use Rattle.machine_model.specs.Events.Bodies.{handler_ended};
-ghost use Rattle.machine_model.specs.Events.Calls.{without_holdings};
+ghost use Rattle.machine_model.specs.Events.Calls.{called, without_holdings};
 ghost use Rattle.machine_model.specs.Events.Follow.{Event, followed};
 ghost use Rattle.machine_model.specs.Events.Handlers.{due_begun, interrupt_begun};
 ghost use Rattle.machine_model.specs.Events.Settle.{settle};
@@ -29,6 +33,10 @@ ghost use Rattle.machine_model.specs.declared.turns.Turn.TheVariants as turns;
 /// dispatching is delayed (`follows`); while another task that ended frees its mutexes (`freed`); through the arrival of an
 /// ending (`arrives`); and through a whole step in which no body goes on (`step`). After such a step all that is asked of the
 /// task holds again, so through any number of them (`still_same`, `still_fresh`, `still_alone`).
+///
+/// Nor does a call take its place, whoever makes it, a handler, another task, or the task itself where it is ready still: none that
+/// is on neither tasks nor mutexes (`calls`), with all that follows it (`calls_follow`); and none on mutexes that another task
+/// makes, where the task owns none (`mutex_calls`, `mutex_calls_follow`).
 ///
 /// A task that owns no mutex has the priority of its base (`owning_none`), and settling leaves it owning none
 /// (`still_owning_none`).
@@ -73,6 +81,23 @@ pub fn preempted_task_keeps_its_place()
         ((id : ℕ) → heir_in (mutex_at st.objects.mutexes id) ≡ t → ⊥) →
         (turn_of (made_pending script n st) ≡ turns.Handler → ⊥) → ((u : ℕ) → turn_of (made_pending script n st) ≡ turns.Task u → ⊥) →
         (id : ℕ) → heir_in (mutex_at (worked script mode n st).state.objects.mutexes id) ≡ t → ⊥ }
+    ensures calls { (mode : Mode) (n : ℕ) (st : State) (caller : ℕ) (call : Call) (t : ℕ) → length st.objects.devices.links ≤ 9 → KeepsPlace st.base t →
+        is_ready st.base t ≡ true → ((it : TaskCall) → call ≡ calls.Task it → ⊥) → ((it : MutexCall) → call ≡ calls.Mutex it → ⊥) →
+        is_ready (called mode n st caller call).state.base t ≡ true → KeepsPlace (called mode n st caller call).state.base t }
+    ensures calls_follow { (script : Script) (mode : Mode) (n : ℕ) (st : State) (caller : ℕ) (call : Call) (t : ℕ) → 1 ≤ t → length st.objects.devices.links ≤ 9 →
+        KeepsPlace st.base t → is_ready st.base t ≡ true → current st.base t ≡ current_of st.base st.objects.mutexes t →
+        ((id : ℕ) → heir_in (mutex_at st.objects.mutexes id) ≡ t → ⊥) →
+        ((it : TaskCall) → call ≡ calls.Task it → ⊥) → ((it : MutexCall) → call ≡ calls.Mutex it → ⊥) →
+        is_ready (called mode n st caller call).state.base t ≡ true →
+        KeepsPlace (followed script mode n (called mode n st caller call).state).state.base t }
+    ensures mutex_calls { (mode : Mode) (n : ℕ) (st : State) (caller : ℕ) (call : MutexCall) (t : ℕ) → 1 ≤ t → length st.objects.devices.links ≤ 9 →
+        KeepsPlace st.base t → is_ready st.base t ≡ true → ((id : ℕ) → owner_of st.objects.mutexes id ≡ t → ⊥) → (caller ≡ t → ⊥) →
+        is_ready (called mode n st caller (calls.Mutex call)).state.base t ≡ true → KeepsPlace (called mode n st caller (calls.Mutex call)).state.base t }
+    ensures mutex_calls_follow { (script : Script) (mode : Mode) (n : ℕ) (st : State) (caller : ℕ) (call : MutexCall) (t : ℕ) → 1 ≤ t →
+        length st.objects.devices.links ≤ 9 → KeepsPlace st.base t → is_ready st.base t ≡ true → current st.base t ≡ base_of st.base t →
+        ((id : ℕ) → owner_of st.objects.mutexes id ≡ t → ⊥) → (caller ≡ t → ⊥) →
+        is_ready (called mode n st caller (calls.Mutex call)).state.base t ≡ true →
+        KeepsPlace (followed script mode n (called mode n st caller (calls.Mutex call)).state).state.base t }
     ensures owning_none { (p : Parts) (t : ℕ) → 1 ≤ t → ((id : ℕ) → owner_of p.objects.mutexes id ≡ t → ⊥) →
         current_of p.base p.objects.mutexes t ≡ base_of p.base t }
     ensures still_owning_none { (mode : Mode) (p : Parts) (t : ℕ) → 1 ≤ t → length p.objects.devices.links ≤ 9 → KeepsPlace p.base t → is_ready p.base t ≡ true →

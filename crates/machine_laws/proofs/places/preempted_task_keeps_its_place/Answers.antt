@@ -1,13 +1,16 @@
-use Rattle.std.proofs.Common.{◌≡◌, ℕ, ◌≤◌, length, true}
+use Rattle.std.proofs.Common.{◌≡◌, ℕ, zero, suc, ◌≤◌, length, true, refl}
 use Rattle.kernel_model.specs.LawWords.Precedence.{KeepsPlace}
 use Rattle.kernel_model.specs.Tasks.Base.{current, is_ready, task_at}
+use Rattle.kernel_model.specs.Tasks.Calls.{caller}
 use Rattle.object_model.specs.Mutexes.Priority.{current_of}
 use Rattle.machine_model.specs.States.Objects.{Parts}
-use Rattle.machine_model.specs.States.State.{parts_of}
+use Rattle.machine_model.specs.States.State.{parts_of, who_of}
+use Rattle.machine_lemmas.proofs.PlacesCalls.{called_followed, called_stands}
 use Rattle.machine_lemmas.proofs.PlacesCeilings.{LendsNone}
 use Rattle.machine_lemmas.proofs.PlacesEvents.{stands_arrived, stands_followed, stands_holdings, stands_settled, stands_tick}
 use Rattle.machine_model.specs.Runs.Step.{worked}
-use Rattle.machine_lemmas.proofs.PlacesKept.{Alone, IsPreempted, due_place, ended_place, interrupt_place, preempted_then, settled_owning_none, settles_first, stands_first, stands_worked}
+use Rattle.machine_lemmas.proofs.PlacesKept.{Alone, IsPreempted, due_place, ended_place, interrupt_place, owning_none_settles, preempted_then, settled_owning_none, settles_first, stands_first, stands_worked}
+use Rattle.machine_lemmas.proofs.PlacesMutexes.{mutex_called, mutex_followed}
 use Rattle.machine_lemmas.proofs.PlacesOwned.{current_owning_none}
 use Rattle.machine_laws.proofs.places.preempted_task_keeps_its_place.Goals as goal
 
@@ -69,6 +72,31 @@ pub returns-clause-still_alone : goal.returns-clause-still_alone
 returns-clause-still_alone c = λ script mode n st t one few place ready fresh heirs handler task.
     let is = asked (parts_of st) t one few place ready fresh heirs in
     (stands_worked (task_at st.base t) t (Alone t (parts_of st)) script mode n st (settles_first t (parts_of st) is) (handler, task) (stands_first t (parts_of st) is)).place.mutexes.heirs
+
+pub returns-clause-calls : goal.returns-clause-calls
+returns-clause-calls c = λ mode n st caller call t few place ready no_task no_mutex now.
+    (called_stands (task_at st.base t) t (λ m. Unit {0}) mode n st caller call ready (no_task, no_mutex)
+     (record { place = record { base = record { is = refl; place = place }; mutexes = tt }; few = few }) now).place.base.place
+
+pub returns-clause-calls_follow : goal.returns-clause-calls_follow
+returns-clause-calls_follow c = λ script mode n st caller call t one few place ready fresh heirs no_task no_mutex now.
+    let is = asked (parts_of st) t one few place ready fresh heirs in
+    (called_followed (task_at st.base t) t (Alone t (parts_of st)) script mode n st caller call (settles_first t (parts_of st) is) (no_task, no_mutex) (stands_first t (parts_of st) is) now).place.base.place
+
+-- the caller of a frame's number is that number
+same_caller : (u t : ℕ) → (u ≡ t → ⊥) → caller (who_of u) ≡ t → ⊥
+same_caller zero t apart is = apart is
+same_caller (suc u) t apart is = apart is
+
+pub returns-clause-mutex_calls : goal.returns-clause-mutex_calls
+returns-clause-mutex_calls c = λ mode n st caller call t one few place ready none apart now.
+    (mutex_called (task_at st.base t) t mode n st caller call one ready (same_caller caller t apart)
+     (record { place = record { base = record { is = refl; place = place }; mutexes = none }; few = few }) now).place.base.place
+
+pub returns-clause-mutex_calls_follow : goal.returns-clause-mutex_calls_follow
+returns-clause-mutex_calls_follow c = λ script mode n st caller call t one few place ready same none apart now.
+    (mutex_followed (task_at st.base t) t script mode n st caller call (owning_none_settles (task_at st.base t) t one ready same) (same_caller caller t apart)
+     (record { place = record { base = record { is = refl; place = place }; mutexes = none }; few = few }) now).place.base.place
 
 pub returns-clause-owning_none : goal.returns-clause-owning_none
 returns-clause-owning_none c = λ p t one none. current_owning_none p.base p.objects.mutexes t none one
