@@ -31,3 +31,4 @@ pub mod PlacesDevices
 pub mod PlacesSemFlags
 pub mod PlacesCalls
 pub mod PlacesMutexes
+pub mod PlacesTasks

@@ -1,6 +1,6 @@
 -- A call that is on neither tasks nor mutexes leaves a ready task in its place, whoever makes it: the task itself, where it is
 -- ready still, another task, or a handler.
-use Rattle.std.proofs.Common.{◌≡◌, ℕ, ◌≤◌, Bool, true, false, cond, length, List, [], Option, Some, None, ℤ, pos, zero, suc, refl, ◌∙◌, ap, sym, subst}
+use Rattle.std.proofs.Common.{◌≡◌, ℕ, ◌≤◌, Bool, true, false, cond, length, Option, ℤ, pos, zero, suc, refl, sym, subst}
 use Rattle.std.specs.Ordering.{int_eq}
 use Rattle.tk_types.specs.declared.answer.Outcome.{Outcome}
 use Rattle.tk_types.specs.declared.answer.Outcome.TheVariants as outcomes
@@ -15,7 +15,7 @@ use Rattle.tk_types.specs.declared.calls.TimeCall.TheVariants as time
 use Rattle.tk_types.specs.declared.run.Mode.{Mode}
 use Rattle.tk_types.specs.declared.script.Script.{Script}
 use Rattle.tk_types.specs.declared.task.Task.{Task}
-use Rattle.kernel_model.specs.Tasks.Base.{Base, is_ready, may_run}
+use Rattle.kernel_model.specs.Tasks.Base.{is_ready, may_run}
 use Rattle.kernel_model.specs.Bodies.Statements.{give}
 use Rattle.object_model.specs.Mutexes.Tables.{Mutexes}
 use Rattle.device_lemmas.proofs.Walk as devices

@@ -1,7 +1,7 @@
 -- A task that owns no inheritance mutex has its priority by itself alone: by its base and by the ceilings of what it holds. No
 -- serving of another task changes that, nor does another task that frees its own mutexes.
-use Rattle.std.proofs.Common.{◌≡◌, ℕ, ◌≤◌, Bool, true, false, not, ◌&&◌, List, [], ◌∷◌, Option, Some, None, refl, cond, ◌∙◌, ap, sym, subst, arith}
-use Rattle.std.specs.Prelude.{drop, filter, fold}
+use Rattle.std.proofs.Common.{◌≡◌, ℕ, ◌≤◌, Bool, true, false, not, ◌&&◌, List, [], ◌∷◌, Option, Some, None, refl, ◌∙◌, ap, sym, arith}
+use Rattle.std.specs.Prelude.{drop, fold}
 use Rattle.std.specs.Bool.{◌==◌}
 use Rattle.std.specs.Option.{option_map}
 use Rattle.std.proofs.lemmas.Bool.Decides.{nat_tests}

@@ -1,7 +1,6 @@
 -- What passes through waits and their ends passes through each call on devices.
-use Rattle.std.proofs.Common.{◌≡◌, ℕ, Bool, true, false, not, cond, List, [], ◌∷◌, Option, Some, None, refl, ap, sym, subst, ◌∙◌, ℤ, pos, negsuc}
-use Rattle.std.specs.Bool.{◌==◌}
-use Rattle.std.specs.Prelude.{filter, fold, if◌then◌else◌, is_some, reverse}
+use Rattle.std.proofs.Common.{ℕ, Bool, true, false, not, cond, List, [], ◌∷◌, Option, Some, None, ℤ, pos, negsuc}
+use Rattle.std.specs.Prelude.{filter, fold, is_some, reverse}
 use Rattle.std.specs.Ordering.{int_eq}
 use Rattle.tk_types.specs.declared.answer.Who.{Who}
 use Rattle.tk_types.specs.declared.calls.DeviceCall.{DeviceCall}
@@ -17,16 +16,12 @@ use Rattle.kernel_model.specs.Tasks.Base.{Base}
 use Rattle.kernel_model.specs.Tasks.Calls.{caller}
 use Rattle.object_model.specs.Mails.Tables.{MailParts}
 use Rattle.object_model.specs.Mails.Buffers.{post}
-use Rattle.device_model.specs.declared.messages.Ending.{Ending}
 use Rattle.device_model.specs.declared.rows.Transfer.{Transfer}
 use Rattle.device_model.specs.declared.rows.Wish.{Wish}
 use Rattle.device_model.specs.declared.rows.Wish.TheVariants as wish
-use Rattle.device_model.specs.Units.Function.{Served}
-use Rattle.device_model.specs.Devices.Memory.{number_of, read_bytes}
-use Rattle.device_model.specs.Devices.Tables.{Devices, Given, Link, Row, buffer_of, device_ids, free_request, is_at_driver, link_at, row_at, with_wish}
+use Rattle.device_model.specs.Devices.Tables.{Devices, buffer_of, device_ids, free_request, link_at, with_wish}
 use Rattle.device_model.specs.Devices.Handing.{any_given, suspension_object}
-use Rattle.device_model.specs.Devices.Endings as endings
-use Rattle.device_model.specs.Devices.Endings.{DevParts, arrive, close_object}
+use Rattle.device_model.specs.Devices.Endings.{DevParts, close_object}
 use Rattle.device_model.specs.Devices.Requests as requests
 use Rattle.device_model.specs.Devices.Servings.{is_with_driver}
 use Rattle.device_model.specs.Devices.Suspension as suspension

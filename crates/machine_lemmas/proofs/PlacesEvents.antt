@@ -1,6 +1,6 @@
 -- A task in its place keeps it through ticks, through the starts and the ends of handlers, through all that follows an event,
 -- through the arrival of an ending, and while another task that ended frees its mutexes.
-use Rattle.std.proofs.Common.{◌≡◌, ℕ, zero, suc, ◌+◌, ◌≤◌, Bool, true, false, cond, length, List, [], ◌∷◌, Option, Some, None, ℤ, pos, refl, ◌∙◌, ap, sym, subst}
+use Rattle.std.proofs.Common.{◌≡◌, ℕ, zero, suc, ◌+◌, ◌≤◌, Bool, true, false, cond, length, [], Option, Some, None, ℤ, refl, ◌∙◌, ap, subst}
 use Rattle.std.specs.List.{last_or}
 use Rattle.std.specs.Option.{option_map}
 use Rattle.tk_types.specs.declared.answer.Answer.{Answer}
@@ -11,7 +11,7 @@ use Rattle.tk_types.specs.declared.task.Event.TheVariants as dues
 use Rattle.tk_types.specs.declared.task.Flags.{Flags}
 use Rattle.tk_types.specs.declared.task.Task.{Task}
 use Rattle.kernel_model.specs.Words.Events.{due_event}
-use Rattle.kernel_model.specs.Tasks.Base.{Base, advance, may_run, release, set_flags, take_due, task_at}
+use Rattle.kernel_model.specs.Tasks.Base.{Base, advance, may_run, release, set_flags, take_due}
 use Rattle.kernel_lemmas.proofs.Releases.{release_keeps_place, release_ready}
 use Rattle.context_model.specs.declared.cyclic_row.CyclicRow.{CyclicRow}
 use Rattle.context_model.specs.Clocks.Tables.{Clocks, again, again_in, cyclic_at}
@@ -19,14 +19,14 @@ use Rattle.device_model.specs.declared.messages.Ending.{Ending}
 use Rattle.device_model.specs.Devices.Endings.{DevParts, arrive}
 use Rattle.call_walk.proofs.DeviceCalls.{arrive_keeps}
 use Rattle.device_lemmas.proofs.Walk as devices
-use Rattle.object_model.specs.Mutexes.Tables.{Mutexes, free_last, freed, held, owner_of}
+use Rattle.object_model.specs.Mutexes.Tables.{Mutexes, free_last, freed, held}
 use Rattle.mutex_laws.proofs.Freed.{ends_by, holds_owns, last_stands}
 use Rattle.machine_model.specs.States.Objects.{Parts, dev_parts, with_devices}
 use Rattle.machine_model.specs.States.State.{State, parts_of}
 use Rattle.machine_model.specs.Events.Arrivals.{after_arrival, arrived}
 use Rattle.machine_model.specs.Events.Bodies.{body_returned, returned}
 use Rattle.machine_model.specs.Events.Calls.{without_holdings}
-use Rattle.machine_model.specs.Events.Follow.{Event, followed, settled}
+use Rattle.machine_model.specs.Events.Follow.{Event, followed}
 use Rattle.machine_model.specs.Events.Handlers.{due_begun, handler_begun, interrupt_begun}
 use Rattle.machine_model.specs.Events.Settle.{freed_within, settle, with_freed}
 use Rattle.machine_model.specs.Events.Ticks.{due_done, fallen, limit_answer, tick}

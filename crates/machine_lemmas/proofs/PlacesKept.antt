@@ -1,6 +1,6 @@
 -- The clauses of the law: a ready task that is the first of its equals, has the priority of its definition and owns no
 -- inheritance mutex stays the first of its equals.
-use Rattle.std.proofs.Common.{◌≡◌, ℕ, ◌≤◌, ◌+◌, ◌-◌, length, List, [], ◌∷◌, Option, Some, true, false, ℤ, refl, ap, ◌∙◌, sym}
+use Rattle.std.proofs.Common.{◌≡◌, ℕ, ◌≤◌, ◌-◌, length, Option, true, false, refl, ap, ◌∙◌, sym}
 use Rattle.std.specs.Prelude.{drop}
 use Rattle.tk_types.specs.declared.run.Mode.{Mode}
 use Rattle.tk_types.specs.declared.script.Script.{Script}
@@ -10,14 +10,13 @@ use Rattle.tk_types.specs.declared.task.Flags.{Flags}
 use Rattle.tk_types.specs.declared.task.Task.{Task}
 use Rattle.kernel_model.specs.LawWords.Precedence.{KeepsPlace}
 use Rattle.kernel_model.specs.Tasks.Base.{Base, base_in, base_of, current, current_in, is_ready, may_run, set_flags, task_at}
-use Rattle.object_model.specs.Mutexes.Tables.{Mutexes, mutex_at}
-use Rattle.object_model.specs.Mutexes.Priority.{current_of, heir_in}
+use Rattle.object_model.specs.Mutexes.Tables.{Mutexes}
+use Rattle.object_model.specs.Mutexes.Priority.{current_of}
 use Rattle.machine_model.specs.declared.turns.Turn.{Turn}
 use Rattle.machine_model.specs.declared.turns.Turn.TheVariants as turns
 use Rattle.machine_model.specs.States.Objects.{Parts}
 use Rattle.machine_model.specs.States.State.{State, parts_of}
 use Rattle.machine_model.specs.Events.Bodies.{handler_ended}
-use Rattle.machine_model.specs.Events.Follow.{followed}
 use Rattle.machine_model.specs.Events.Handlers.{due_begun, handler_begun, interrupt_begun}
 use Rattle.machine_model.specs.Events.Settle.{settle}
 use Rattle.machine_model.specs.Runs.Turns.{done_turn, turn_of}
@@ -25,7 +24,7 @@ use Rattle.machine_model.specs.Runs.Step.{made_pending, worked}
 use Rattle.machine_lemmas.proofs.PlacesCeilings.{IsAlone, LendsNone, alone_from, alone_settles}
 use Rattle.machine_lemmas.proofs.PlacesEvents.{Stands, stands_due_begun, stands_followed, stands_interrupt, stands_tick}
 use Rattle.machine_lemmas.proofs.PlacesOwned.{OwnsNone, current_owning_none, none_passes}
-use Rattle.machine_lemmas.proofs.PlacesSettled.{HasPlace, IsInPlace, Settles, settled_place}
+use Rattle.machine_lemmas.proofs.PlacesSettled.{Settles, settled_place}
 use Rattle.machine_lemmas.proofs.Servings.{FewDevices}
 use Rattle.machine_lemmas.proofs.Walk.{pending_has}
 

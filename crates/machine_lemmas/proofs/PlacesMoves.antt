@@ -1,9 +1,9 @@
 -- What a call may do to the base that neither starts, ends nor suspends a task, nor changes a priority: its caller begins a wait
 -- at last, others' waits end, bytes are taken and given, what is set for a time changes, and flags do. What passes through these
 -- passes through every call on mailboxes, message buffers, pools, time, handlers, interrupts and devices.
-use Rattle.std.proofs.Common.{◌≡◌, ℕ, zero, suc, Bool, true, false, cond, length, List, [], ◌∷◌, Option, Some, None, ℤ, pos, negsuc, refl, ◌∙◌, ap, sym, arith}
+use Rattle.std.proofs.Common.{◌≡◌, ℕ, zero, suc, Bool, true, false, cond, length, List, [], ◌∷◌, Option, Some, ℤ, pos, negsuc, refl, ◌∙◌, ap, sym, arith}
 use Rattle.std.specs.Bool.{◌==◌}
-use Rattle.std.specs.Prelude.{filter, slice_set}
+use Rattle.std.specs.Prelude.{filter}
 use Rattle.std.proofs.lemmas.Bool.Decides.{nat_tests}
 use Rattle.tk_types.specs.declared.answer.Answer.{Answer}
 use Rattle.tk_types.specs.declared.error_code.Er.TheVariants as er

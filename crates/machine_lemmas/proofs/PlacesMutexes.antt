@@ -1,5 +1,5 @@
 -- A call on mutexes leaves a ready task that owns none in its place, and owning none, where another task makes it.
-use Rattle.std.proofs.Common.{◌≡◌, ℕ, ◌≤◌, arith, Bool, true, false, cond, List, [], ◌∷◌, Option, Some, None, ℤ, pos}
+use Rattle.std.proofs.Common.{◌≡◌, ℕ, ◌≤◌, arith, Bool, true, false, cond, List, [], Option, Some, None, ℤ, pos}
 use Rattle.std.specs.Bool.{◌==◌}
 use Rattle.std.specs.Option.{option_map}
 use Rattle.std.specs.Ordering.{int_eq}
@@ -20,7 +20,7 @@ use Rattle.kernel_model.specs.Tasks.Base.{Base, is_ready, make_wait, may_run}
 use Rattle.kernel_model.specs.Tasks.Calls.{caller}
 use Rattle.kernel_model.specs.SemFlags.Calls.{object_checks}
 use Rattle.object_model.specs.declared.mutexes.Mutex.{Mutex}
-use Rattle.object_model.specs.Mutexes.Tables.{Mutexes, has_mutex, locked, mutex_at, mutex_object, owner_in}
+use Rattle.object_model.specs.Mutexes.Tables.{Mutexes, has_mutex, locked, mutex_at, mutex_object}
 use Rattle.object_model.specs.Mutexes.Calls as calls
 use Rattle.object_model.specs.Mutexes.Calls.{MutexDone, mutex_call, mutex_checked, mutex_waits_ended, refused_with, table_changed, waited_for_mutex, waits_or_ends}
 use Rattle.mutex_laws.proofs.Refusals.{mutex_cases}

@@ -1,7 +1,6 @@
 -- A task that is ready, the first of its equals, and whose priority is that of its definition, stays so through settling.
-use Rattle.std.proofs.Common.{◌≡◌, ℕ, zero, suc, ◌≤◌, length, Bool, true, false, List, Option, Some, None, refl, cond, ◌-◌, ◌∙◌, ap, sym, subst}
+use Rattle.std.proofs.Common.{◌≡◌, ℕ, zero, suc, ◌≤◌, Bool, true, false, Option, Some, None, refl, cond, ◌-◌, ◌∙◌, ap, sym}
 use Rattle.std.specs.Prelude.{slice_set}
-use Rattle.tk_types.specs.declared.answer.Answer.{Answer}
 use Rattle.tk_types.specs.declared.run.Mode.{Mode}
 use Rattle.tk_types.specs.declared.run.Mode.TheVariants as modes
 use Rattle.tk_types.specs.declared.task.Order.{Order}
@@ -10,17 +9,17 @@ use Rattle.tk_types.specs.declared.task.Phase.TheVariants.{Waiting}
 use Rattle.tk_types.specs.declared.task.Task.{Task}
 use Rattle.kernel_model.specs.LawWords.Precedence.{KeepsPlace}
 use Rattle.kernel_model.specs.Words.Orders.{entry}
-use Rattle.kernel_model.specs.Tasks.Base.{Base, base_in, current, current_in, drop_wait, is_ready, is_waiting_phase, may_run, move_wait, release, task_at, waits_for, with_task}
+use Rattle.kernel_model.specs.Tasks.Base.{Base, current, current_in, drop_wait, is_ready, is_waiting_phase, may_run, move_wait, task_at, with_task}
 use Rattle.kernel_lemmas.proofs.Places.{WasReady, stays}
 use Rattle.kernel_lemmas.proofs.Releases.{release_keeps_place, release_ready}
 use Rattle.kernel_lemmas.proofs.Tables.{entry_cases, entry_each, entry_other, entry_same}
 use Rattle.object_model.specs.Mutexes.Tables.{Mutexes}
-use Rattle.object_model.specs.Mutexes.Priority.{current_of, resettle}
+use Rattle.object_model.specs.Mutexes.Priority.{current_of}
 use Rattle.mutex_laws.proofs.Resettled.{resettled_place, resettled_rows, row_with}
 use Rattle.machine_model.specs.States.Objects.{Parts, serve_object}
 use Rattle.machine_model.specs.Events.Settle.{handed, refreshed, served_within, settle}
 use Rattle.machine_lemmas.proofs.Changes.{Survives}
-use Rattle.machine_lemmas.proofs.PlacesOwned.{OwnsNone, Passes, ready_apart, served_passes}
+use Rattle.machine_lemmas.proofs.PlacesOwned.{Passes, ready_apart, served_passes}
 use Rattle.machine_lemmas.proofs.Servings.{FewDevices, serving}
 use Rattle.machine_lemmas.proofs.Settling.{few_served, next_served}
 
