@@ -1,21 +1,25 @@
 //! The law that a preempted task keeps its place, over the whole machine.
 
-ghost use Rattle.std.specs.Prelude.{◌≡◌, ℕ, ◌≤◌, true, length, Some};
+ghost use Rattle.std.specs.Prelude.{◌≡◌, ℕ, ℤ, ◌≤◌, true, length, Some};
+ghost use Rattle.tk_types.specs.declared.answer.Who.{Who};
 ghost use Rattle.tk_types.specs.declared.calls.Call.{Call};
 ghost use Rattle.tk_types.specs.declared.calls.Call.TheVariants as calls;
 ghost use Rattle.tk_types.specs.declared.calls.MutexCall.{MutexCall};
 ghost use Rattle.tk_types.specs.declared.calls.TaskCall.{TaskCall};
+ghost use Rattle.tk_types.specs.declared.calls.TaskCall.TheVariants as tasks;
 ghost use Rattle.tk_types.specs.declared.run.Mode.{Mode};
 ghost use Rattle.tk_types.specs.declared.script.Script.{Script};
 ghost use Rattle.tk_types.specs.declared.task.Event.{Event as DueKind};
 ghost use Rattle.kernel_model.specs.LawWords.Precedence.{KeepsPlace};
-ghost use Rattle.kernel_model.specs.Tasks.Base.{base_of, current, is_ready, task_at};
-ghost use Rattle.object_model.specs.Mutexes.Tables.{mutex_at, owner_of};
+ghost use Rattle.kernel_model.specs.Tasks.Base.{Base, base_of, current, is_ready, task_at};
+ghost use Rattle.kernel_model.specs.Tasks.Calls.{named, rotated_priority};
+ghost use Rattle.object_model.specs.Mutexes.Calls.{task_call_beside};
+ghost use Rattle.object_model.specs.Mutexes.Tables.{Mutexes, mutex_at, owner_of};
 ghost use Rattle.object_model.specs.Mutexes.Priority.{current_of, heir_in};
 ghost use Rattle.device_model.specs.declared.messages.Ending.{Ending};
 ghost use Rattle.machine_model.specs.Events.Arrivals.{arrived};
 ghost use Rattle.machine_model.specs.Events.Bodies.{handler_ended};
-ghost use Rattle.machine_model.specs.Events.Calls.{called, without_holdings};
+ghost use Rattle.machine_model.specs.Events.Calls.{called, ended_in, without_holdings};
 ghost use Rattle.machine_model.specs.Events.Follow.{Event, followed};
 ghost use Rattle.machine_model.specs.Events.Handlers.{due_begun, interrupt_begun};
 ghost use Rattle.machine_model.specs.Events.Settle.{settle};
@@ -23,7 +27,7 @@ ghost use Rattle.machine_model.specs.Events.Ticks.{tick};
 ghost use Rattle.machine_model.specs.Runs.Step.{made_pending, worked};
 ghost use Rattle.machine_model.specs.Runs.Turns.{turn_of};
 ghost use Rattle.machine_model.specs.States.Objects.{Parts};
-ghost use Rattle.machine_model.specs.States.State.{State};
+ghost use Rattle.machine_model.specs.States.State.{State, who_of};
 ghost use Rattle.machine_model.specs.declared.turns.Turn.TheVariants as turns;
 
 /// A task that is preempted keeps its place. Where a task is ready and the first of its equals, has the priority of its
@@ -36,7 +40,9 @@ ghost use Rattle.machine_model.specs.declared.turns.Turn.TheVariants as turns;
 ///
 /// Nor does a call take its place, whoever makes it, a handler, another task, or the task itself where it is ready still: none that
 /// is on neither tasks nor mutexes (`calls`), with all that follows it (`calls_follow`); and none on mutexes that another task
-/// makes, where the task owns none (`mutex_calls`, `mutex_calls_follow`).
+/// makes, where the task owns none (`mutex_calls`, `mutex_calls_follow`). A call on tasks takes its place only by what it means,
+/// where it rotates the tasks of its very priority or changes its own (`task_calls`); with all that follows, also the end of another
+/// task and the mutexes that this one frees then, where the call leaves the task as it is (`task_calls_follow`).
 ///
 /// A task that owns no mutex has the priority of its base (`owning_none`), and settling leaves it owning none
 /// (`still_owning_none`).
@@ -98,6 +104,18 @@ pub fn preempted_task_keeps_its_place()
         ((id : ℕ) → owner_of st.objects.mutexes id ≡ t → ⊥) → (caller ≡ t → ⊥) →
         is_ready (called mode n st caller (calls.Mutex call)).state.base t ≡ true →
         KeepsPlace (followed script mode n (called mode n st caller (calls.Mutex call)).state).state.base t }
+    ensures task_calls { (b : Base) (m : Mutexes) (who : Who) (t : ℕ) (call : TaskCall) → KeepsPlace b t → is_ready b t ≡ true →
+        ((priority : ℤ) → call ≡ tasks.RotRdq priority → rotated_priority b priority ≡ current b t → ⊥) →
+        ((task priority : ℤ) → call ≡ tasks.ChgPri task priority → named who task ≡ t → ⊥) →
+        is_ready (task_call_beside b m who call).base t ≡ true → current (task_call_beside b m who call).base t ≡ current b t →
+        KeepsPlace (task_call_beside b m who call).base t }
+    ensures task_calls_follow { (script : Script) (mode : Mode) (n : ℕ) (st : State) (caller : ℕ) (call : TaskCall) (t : ℕ) → 1 ≤ t →
+        length st.objects.devices.links ≤ 9 → KeepsPlace st.base t → is_ready st.base t ≡ true → current st.base t ≡ current_of st.base st.objects.mutexes t →
+        ((id : ℕ) → heir_in (mutex_at st.objects.mutexes id) ≡ t → ⊥) →
+        ((priority : ℤ) → call ≡ tasks.RotRdq priority → rotated_priority st.base priority ≡ current st.base t → ⊥) →
+        ((task priority : ℤ) → call ≡ tasks.ChgPri task priority → named (who_of caller) task ≡ t → ⊥) → (ended_in caller call ≡ t → ⊥) →
+        task_at (task_call_beside st.base st.objects.mutexes (who_of caller) call).base t ≡ task_at st.base t →
+        KeepsPlace (followed script mode n (called mode n st caller (calls.Task call)).state).state.base t }
     ensures owning_none { (p : Parts) (t : ℕ) → 1 ≤ t → ((id : ℕ) → owner_of p.objects.mutexes id ≡ t → ⊥) →
         current_of p.base p.objects.mutexes t ≡ base_of p.base t }
     ensures still_owning_none { (mode : Mode) (p : Parts) (t : ℕ) → 1 ≤ t → length p.objects.devices.links ≤ 9 → KeepsPlace p.base t → is_ready p.base t ≡ true →

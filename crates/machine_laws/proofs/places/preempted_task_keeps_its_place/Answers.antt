@@ -12,6 +12,7 @@ use Rattle.machine_model.specs.Runs.Step.{worked}
 use Rattle.machine_lemmas.proofs.PlacesKept.{Alone, IsPreempted, due_place, ended_place, interrupt_place, owning_none_settles, preempted_then, settled_owning_none, settles_first, stands_first, stands_worked}
 use Rattle.machine_lemmas.proofs.PlacesMutexes.{mutex_called, mutex_followed}
 use Rattle.machine_lemmas.proofs.PlacesOwned.{current_owning_none}
+use Rattle.machine_lemmas.proofs.PlacesTasks.{task_call_place, task_followed}
 use Rattle.machine_laws.proofs.places.preempted_task_keeps_its_place.Goals as goal
 
 -- what is asked of the task
@@ -97,6 +98,16 @@ pub returns-clause-mutex_calls_follow : goal.returns-clause-mutex_calls_follow
 returns-clause-mutex_calls_follow c = λ script mode n st caller call t one few place ready same none apart now.
     (mutex_followed (task_at st.base t) t script mode n st caller call (owning_none_settles (task_at st.base t) t one ready same) (same_caller caller t apart)
      (record { place = record { base = record { is = refl; place = place }; mutexes = none }; few = few }) now).place.base.place
+
+pub returns-clause-task_calls : goal.returns-clause-task_calls
+returns-clause-task_calls c = λ b m who t call place ready rotates changes now same.
+    task_call_place b m who t call place ready (record { rotates = rotates; changes = changes }) now same
+
+pub returns-clause-task_calls_follow : goal.returns-clause-task_calls_follow
+returns-clause-task_calls_follow c = λ script mode n st caller call t one few place ready fresh heirs rotates changes apart same.
+    let is = asked (parts_of st) t one few place ready fresh heirs in
+    (task_followed (task_at st.base t) t (Alone t (parts_of st)) script mode n st caller call (settles_first t (parts_of st) is) (record { rotates = rotates; changes = changes }) apart same
+     (stands_first t (parts_of st) is)).place.base.place
 
 pub returns-clause-owning_none : goal.returns-clause-owning_none
 returns-clause-owning_none c = λ p t one none. current_owning_none p.base p.objects.mutexes t none one
