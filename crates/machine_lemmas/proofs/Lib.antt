@@ -32,3 +32,4 @@ pub mod PlacesSemFlags
 pub mod PlacesCalls
 pub mod PlacesMutexes
 pub mod PlacesTasks
+pub mod PlacesStatements

@@ -1,6 +1,6 @@
 -- A call on tasks leaves a ready task in its place, whoever makes it, where it keeps its current priority, unless the call
 -- rotates the tasks of its priority or changes its own; and so does all that follows it.
-use Rattle.std.proofs.Common.{◌≡◌, ℕ, suc, zero, ◌+◌, ◌≤◌, Bool, true, false, cond, List, [], ◌∷◌, Option, Some, None, ℤ, pos, negsuc, refl, ◌∙◌, ap, sym, subst, arith}
+use Rattle.std.proofs.Common.{◌≡◌, ℕ, suc, zero, ◌+◌, ◌≤◌, Bool, true, false, cond, List, [], ◌∷◌, Option, None, ℤ, pos, negsuc, refl, ◌∙◌, ap, sym, arith}
 use Rattle.std.specs.Bool.{◌==◌}
 use Rattle.std.specs.Prelude.{filter, slice_index, slice_set}
 use Rattle.std.specs.Ordering.{int_eq}
@@ -37,7 +37,7 @@ use Rattle.machine_model.specs.States.Objects.{Parts}
 use Rattle.machine_model.specs.States.State.{State, frame_of, parts_of, who_of, with_frame}
 use Rattle.machine_lemmas.proofs.PlacesEvents.{Stands, stands_followed, stands_holdings}
 use Rattle.machine_lemmas.proofs.PlacesOwned.{second}
-use Rattle.machine_lemmas.proofs.PlacesSettled.{HasPlace, Settles}
+use Rattle.machine_lemmas.proofs.PlacesSettled.{Settles}
 
 -- the call rotates the tasks of this one's priority, or changes its own
 pub record TakesNoPlace (b : Base) (who : Who) (t : ℕ) (it : TaskCall) : Type 0 where
