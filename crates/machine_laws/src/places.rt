@@ -7,6 +7,8 @@ ghost use Rattle.tk_types.specs.declared.calls.Call.TheVariants as calls;
 ghost use Rattle.tk_types.specs.declared.calls.MutexCall.{MutexCall};
 ghost use Rattle.tk_types.specs.declared.calls.TaskCall.{TaskCall};
 ghost use Rattle.tk_types.specs.declared.calls.TaskCall.TheVariants as tasks;
+ghost use Rattle.tk_types.specs.declared.run.Act.{Act};
+ghost use Rattle.tk_types.specs.declared.run.Act.TheVariants as acts;
 ghost use Rattle.tk_types.specs.declared.run.Mode.{Mode};
 ghost use Rattle.tk_types.specs.declared.script.Script.{Script};
 ghost use Rattle.tk_types.specs.declared.task.Event.{Event as DueKind};
@@ -16,6 +18,7 @@ ghost use Rattle.kernel_model.specs.Tasks.Calls.{named, rotated_priority};
 ghost use Rattle.object_model.specs.Mutexes.Calls.{task_call_beside};
 ghost use Rattle.object_model.specs.Mutexes.Tables.{Mutexes, mutex_at, owner_of};
 ghost use Rattle.object_model.specs.Mutexes.Priority.{current_of, heir_in};
+ghost use Rattle.context_model.specs.Contexts.Tables.{depth_in};
 ghost use Rattle.device_model.specs.declared.messages.Ending.{Ending};
 ghost use Rattle.machine_model.specs.Events.Arrivals.{arrived};
 ghost use Rattle.machine_model.specs.Events.Bodies.{handler_ended};
@@ -25,7 +28,7 @@ ghost use Rattle.machine_model.specs.Events.Handlers.{due_begun, interrupt_begun
 ghost use Rattle.machine_model.specs.Events.Settle.{settle};
 ghost use Rattle.machine_model.specs.Events.Ticks.{tick};
 ghost use Rattle.machine_model.specs.Runs.Step.{made_pending, worked};
-ghost use Rattle.machine_model.specs.Runs.Turns.{turn_of};
+ghost use Rattle.machine_model.specs.Runs.Turns.{acted, turn_of};
 ghost use Rattle.machine_model.specs.States.Objects.{Parts};
 ghost use Rattle.machine_model.specs.States.State.{State, who_of};
 ghost use Rattle.machine_model.specs.declared.turns.Turn.TheVariants as turns;
@@ -38,6 +41,7 @@ ghost use Rattle.machine_model.specs.declared.turns.Turn.TheVariants as turns;
 /// ending (`arrives`); and through a whole step in which no body goes on (`step`). After such a step all that is asked of the
 /// task holds again, so through any number of them (`still_same`, `still_fresh`, `still_alone`).
 ///
+/// A statement that is no call, and not the end of a task's own body, changes flags at most (`statements`).
 /// Nor does a call take its place, whoever makes it, a handler, another task, or the task itself where it is ready still: none that
 /// is on neither tasks nor mutexes (`calls`), with all that follows it (`calls_follow`); and none on mutexes that another task
 /// makes, where the task owns none (`mutex_calls`, `mutex_calls_follow`). A call on tasks takes its place only by what it means,
@@ -87,6 +91,8 @@ pub fn preempted_task_keeps_its_place()
         ((id : ℕ) → heir_in (mutex_at st.objects.mutexes id) ≡ t → ⊥) →
         (turn_of (made_pending script n st) ≡ turns.Handler → ⊥) → ((u : ℕ) → turn_of (made_pending script n st) ≡ turns.Task u → ⊥) →
         (id : ℕ) → heir_in (mutex_at (worked script mode n st).state.objects.mutexes id) ≡ t → ⊥ }
+    ensures statements { (mode : Mode) (n : ℕ) (st : State) (body : ℕ) (act : Act) (t : ℕ) → ((call : Call) → act ≡ acts.Call call → ⊥) →
+        (act ≡ acts.Fell → depth_in st.objects.contexts body ≡ 0 → body ≡ 0) → KeepsPlace st.base t → KeepsPlace (acted mode n st body act).state.base t }
     ensures calls { (mode : Mode) (n : ℕ) (st : State) (caller : ℕ) (call : Call) (t : ℕ) → length st.objects.devices.links ≤ 9 → KeepsPlace st.base t →
         is_ready st.base t ≡ true → ((it : TaskCall) → call ≡ calls.Task it → ⊥) → ((it : MutexCall) → call ≡ calls.Mutex it → ⊥) →
         is_ready (called mode n st caller call).state.base t ≡ true → KeepsPlace (called mode n st caller call).state.base t }

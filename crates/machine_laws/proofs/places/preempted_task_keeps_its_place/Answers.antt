@@ -12,6 +12,7 @@ use Rattle.machine_model.specs.Runs.Step.{worked}
 use Rattle.machine_lemmas.proofs.PlacesKept.{Alone, IsPreempted, due_place, ended_place, interrupt_place, owning_none_settles, preempted_then, settled_owning_none, settles_first, stands_first, stands_worked}
 use Rattle.machine_lemmas.proofs.PlacesMutexes.{mutex_called, mutex_followed}
 use Rattle.machine_lemmas.proofs.PlacesOwned.{current_owning_none}
+use Rattle.machine_lemmas.proofs.PlacesStatements.{acted_place}
 use Rattle.machine_lemmas.proofs.PlacesTasks.{task_call_place, task_followed}
 use Rattle.machine_laws.proofs.places.preempted_task_keeps_its_place.Goals as goal
 
@@ -73,6 +74,9 @@ pub returns-clause-still_alone : goal.returns-clause-still_alone
 returns-clause-still_alone c = λ script mode n st t one few place ready fresh heirs handler task.
     let is = asked (parts_of st) t one few place ready fresh heirs in
     (stands_worked (task_at st.base t) t (Alone t (parts_of st)) script mode n st (settles_first t (parts_of st) is) (handler, task) (stands_first t (parts_of st) is)).place.mutexes.heirs
+
+pub returns-clause-statements : goal.returns-clause-statements
+returns-clause-statements c = acted_place
 
 pub returns-clause-calls : goal.returns-clause-calls
 returns-clause-calls c = λ mode n st caller call t few place ready no_task no_mutex now.
