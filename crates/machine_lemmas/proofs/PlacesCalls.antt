@@ -53,7 +53,8 @@ stands_if : (row : Option Task) (t : ℕ) (Q : Mutexes → Type 0) (p : Parts) �
 stands_if row t Q p place mutexes few now = record { place = record { base = place now; mutexes = mutexes }; few = few }
 
 -- what the call of a family leaves
-family_stands : (row : Option Task) (t : ℕ) (Q : Mutexes → Type 0) (st : State) (u : ℕ) (c : Call) → may_run row ≡ true → IsOther c → Stands row t Q (parts_of st) → StandsIf row t Q (parts_of (family_call st u c).state)
+family_stands : (row : Option Task) (t : ℕ) (Q : Mutexes → Type 0) (st : State) (u : ℕ) (c : Call) → may_run row ≡ true → IsOther c → Stands row t Q (parts_of st) →
+    StandsIf row t Q (parts_of (family_call st u c).state)
 unfolding family_call
 family_stands row t Q st u (calls.Task c) ready other has = absurd (other.0 c refl)
 family_stands row t Q st u (calls.SemFlag c) ready other has =
@@ -124,7 +125,8 @@ ends_none u (calls.Hook c) outcome other = refl
 -- ---- the call
 
 -- what a family's call leaves, a call on no tasks leaves
-pub called_has : (P : Parts → Type 0) (mode : Mode) (n : ℕ) (st : State) (u : ℕ) (c : Call) → IsNoTask c → P (parts_of (family_call st u c).state) → P (parts_of (called mode n st u c).state)
+pub called_has : (P : Parts → Type 0) (mode : Mode) (n : ℕ) (st : State) (u : ℕ) (c : Call) → IsNoTask c → P (parts_of (family_call st u c).state) →
+    P (parts_of (called mode n st u c).state)
 unfolding called
 called_has P mode n st u c other has =
     let done = family_call st u c in
@@ -132,11 +134,13 @@ called_has P mode n st u c other has =
     (subst (λ (ended : ℕ). P (parts_of (without_holdings mode done.state ended))) (sym (ends_none u c done.outcome other)) has)
 
 -- a call, before what follows it
-pub called_stands : (row : Option Task) (t : ℕ) (Q : Mutexes → Type 0) (mode : Mode) (n : ℕ) (st : State) (u : ℕ) (c : Call) → may_run row ≡ true → IsOther c → Stands row t Q (parts_of st) → StandsIf row t Q (parts_of (called mode n st u c).state)
+pub called_stands : (row : Option Task) (t : ℕ) (Q : Mutexes → Type 0) (mode : Mode) (n : ℕ) (st : State) (u : ℕ) (c : Call) → may_run row ≡ true → IsOther c →
+    Stands row t Q (parts_of st) → StandsIf row t Q (parts_of (called mode n st u c).state)
 called_stands row t Q mode n st u c ready other has = called_has (StandsIf row t Q) mode n st u c other.0 (family_stands row t Q st u c ready other has)
 
 -- and with all that follows it
-pub called_followed : (row : Option Task) (t : ℕ) (Q : Mutexes → Type 0) (script : Script) (mode : Mode) (n : ℕ) (st : State) (u : ℕ) (c : Call) → Settles row t Q → IsOther c → Stands row t Q (parts_of st) →
+pub called_followed : (row : Option Task) (t : ℕ) (Q : Mutexes → Type 0) (script : Script) (mode : Mode) (n : ℕ) (st : State) (u : ℕ) (c : Call) → Settles row t Q →
+    IsOther c → Stands row t Q (parts_of st) →
     is_ready (called mode n st u c).state.base t ≡ true → Stands row t Q (parts_of (followed script mode n (called mode n st u c).state).state)
 called_followed row t Q script mode n st u c settles other has now =
     stands_followed row t Q script mode n (called mode n st u c).state settles (called_stands row t Q mode n st u c settles.ready other has now)

@@ -61,18 +61,22 @@ differs_test : (x t : ℕ) → (x ≡ t → ⊥) → (x == t) ≡ false
 differs_test x t apart = grind (arith, nat_tests, apart)
 
 -- what the task holds and the ceilings stay, so its priority does
-alone_then : (t base n : ℕ) (m now : Mutexes) → LendsNone t now → held now t ≡ held m t → ((id : ℕ) → ceiling_of now id ≡ ceiling_of m id) → IsAlone t base n m → IsAlone t base n now
+alone_then : (t base n : ℕ) (m now : Mutexes) → LendsNone t now → held now t ≡ held m t → ((id : ℕ) → ceiling_of now id ≡ ceiling_of m id) → IsAlone t base n m →
+    IsAlone t base n now
 alone_then t base n m now heirs same ceilings has = record {
   heirs = heirs;
   own = ap (fold (capped now) base) same ∙ fold_alike m now base (held m t) ceilings ∙ has.own;
 }
 
 -- a slot is written that isn't the task's
-heirs_written : (t : ℕ) (m : Mutexes) (id : ℕ) (slot : Option Mutex) (locks : List ℕ) → 1 ≤ t → (heir_in slot ≡ t → ⊥) → LendsNone t m → LendsNone t (record (with_mutex m id slot) { locks = locks })
-heirs_written t m id slot locks one apart none = entry_each (λ i o. heir_in o ≡ t → ⊥) m.table id slot (entry_same (λ o. heir_in o ≡ t → ⊥) m.table id slot apart (λ is. omega (arith, one, is))) (λ j differs. none j)
+heirs_written : (t : ℕ) (m : Mutexes) (id : ℕ) (slot : Option Mutex) (locks : List ℕ) → 1 ≤ t → (heir_in slot ≡ t → ⊥) → LendsNone t m →
+    LendsNone t (record (with_mutex m id slot) { locks = locks })
+heirs_written t m id slot locks one apart none =
+    entry_each (λ i o. heir_in o ≡ t → ⊥) m.table id slot (entry_same (λ o. heir_in o ≡ t → ⊥) m.table id slot apart (λ is. omega (arith, one, is))) (λ j differs. none j)
 
 -- another task becomes an owner
-locked_alone : (t base n : ℕ) (m : Mutexes) (id : ℕ) (k : Mutex) (u : ℕ) → 1 ≤ t → mutex_at m id ≡ Some k → k.owner ≡ 0 → (u ≡ t → ⊥) → IsAlone t base n m → IsAlone t base n (locked m id k u)
+locked_alone : (t base n : ℕ) (m : Mutexes) (id : ℕ) (k : Mutex) (u : ℕ) → 1 ≤ t → mutex_at m id ≡ Some k → k.owner ≡ 0 → (u ≡ t → ⊥) → IsAlone t base n m →
+    IsAlone t base n (locked m id k u)
 locked_alone t base n m id k u one at free apart has =
     let here : mutex_at (locked m id k u) id ≡ Some (record k { owner = u }) = entry_there m.table id k (Some (record k { owner = u })) at in
     let was_free : owner_of m id ≡ 0 = ap owner_in at ∙ free in
@@ -89,7 +93,8 @@ freed_heir : (o : Option Mutex) (t : ℕ) → 1 ≤ t → heir_in (option_map {T
 freed_heir None t one is = omega (arith, one, is)
 freed_heir (Some k) t one is = heir_if k.inherits 0 t one (λ same. omega (arith, one, same)) is
 
-freed_ceiling : (m : Mutexes) (id : ℕ) (slot : Option Mutex) → mutex_at m id ≡ slot → ceiling_in (mutex_at (with_mutex m id (option_map {T = Mutex} (λ k. record k { owner = 0 }) slot)) id) ≡ ceiling_of m id
+freed_ceiling : (m : Mutexes) (id : ℕ) (slot : Option Mutex) → mutex_at m id ≡ slot →
+    ceiling_in (mutex_at (with_mutex m id (option_map {T = Mutex} (λ k. record k { owner = 0 }) slot)) id) ≡ ceiling_of m id
 freed_ceiling m id None at = entry_same (λ o. ceiling_in o ≡ ceiling_of m id) m.table id None (sym (ap ceiling_in at)) (sym (ap ceiling_in at))
 freed_ceiling m id (Some k) at = ap ceiling_in (entry_there m.table id k (Some (record k { owner = 0 })) at) ∙ sym (ap ceiling_in at)
 
@@ -119,5 +124,6 @@ alone_settles row t one ready = record {
 }
 
 -- a ready task that has the priority of its definition, and owns no inheritance mutex, has it by itself
-pub alone_from : (b : Base) (m : Mutexes) (t : ℕ) → may_run (task_at b t) ≡ true → LendsNone t m → current_in (task_at b t) ≡ current_of b m t → IsAlone t (base_in (task_at b t)) (current_in (task_at b t)) m
+pub alone_from : (b : Base) (m : Mutexes) (t : ℕ) → may_run (task_at b t) ≡ true → LendsNone t m → current_in (task_at b t) ≡ current_of b m t →
+    IsAlone t (base_in (task_at b t)) (current_in (task_at b t)) m
 alone_from b m t ready none fresh = record { heirs = none; own = sym (current_lent_none b m t ready none) ∙ sym fresh }

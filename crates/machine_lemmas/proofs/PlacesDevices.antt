@@ -49,20 +49,23 @@ wait_keeps P R is p t object timeout dv has =
 
 -- ---- requests
 
-requested_keeps : (P R : Base → Type 0) → IsPassed P R → (p : DevParts) (t d : ℕ) (transfer : Transfer) (timeout : ℤ) → P p.base → R (calls.requested p t d transfer timeout).parts.base
+requested_keeps : (P R : Base → Type 0) → IsPassed P R → (p : DevParts) (t d : ℕ) (transfer : Transfer) (timeout : ℤ) → P p.base →
+    R (calls.requested p t d transfer timeout).parts.base
 requested_keeps P R is p t d transfer timeout has =
     either_done R (requests.has_place p.table d) (calls.answers (requests.accept p d (free_request p.table) transfer) (pos (free_request p.table)))
     (calls.waits_or_ends p t (requests.acceptance_object d) timeout (with_wish p.table t (wish.Acceptance transfer false)))
     (is.ends _ (accept_keeps P p d (free_request p.table) transfer has))
     (wait_keeps P R is p t (requests.acceptance_object d) timeout (with_wish p.table t (wish.Acceptance transfer false)) has)
 
-request_keeps : (P R : Base → Type 0) → IsPassed P R → (p : DevParts) (who : Who) (write : Bool) (descriptor start address size timeout : ℤ) → P p.base → R (calls.request p who write descriptor start address size timeout).parts.base
+request_keeps : (P R : Base → Type 0) → IsPassed P R → (p : DevParts) (who : Who) (write : Bool) (descriptor start address size timeout : ℤ) → P p.base →
+    R (calls.request p who write descriptor start address size timeout).parts.base
 unfolding calls.request
 request_keeps P R is p who write descriptor start address size timeout has =
     checked_keeps R (calls.request_checks p who descriptor write start address size timeout []) p _ (is.ends p.base has)
     (requested_keeps P R is p (caller who) (calls.device_of p.table (natural descriptor)) (calls.transfer_of descriptor write start address size) timeout has)
 
-stayed_keeps : (P R : Base → Type 0) → IsPassed P R → (p : DevParts) (t d : ℕ) (transfer : Transfer) (start : Option ℕ) → P p.base → R (calls.stayed p t d transfer start).parts.base
+stayed_keeps : (P R : Base → Type 0) → IsPassed P R → (p : DevParts) (t d : ℕ) (transfer : Transfer) (start : Option ℕ) → P p.base →
+    R (calls.stayed p t d transfer start).parts.base
 stayed_keeps P R is p t d transfer (Some start) has = is.waits p.base t (requests.acceptance_object d) Fifo (negsuc 0) has
 stayed_keeps P R is p t d transfer None has =
     let id : ℕ = free_request p.table in
@@ -70,7 +73,8 @@ stayed_keeps P R is p t d transfer None has =
     (is.ends _ (accept_keeps P p d id transfer has))
     (is.waits p.base t (requests.acceptance_object d) Fifo (negsuc 0) has)
 
-whole_keeps : (P R : Base → Type 0) → IsPassed P R → (p : DevParts) (who : Who) (write : Bool) (descriptor start address size : ℤ) → P p.base → R (calls.request_whole p who write descriptor start address size).parts.base
+whole_keeps : (P R : Base → Type 0) → IsPassed P R → (p : DevParts) (who : Who) (write : Bool) (descriptor start address size : ℤ) → P p.base →
+    R (calls.request_whole p who write descriptor start address size).parts.base
 unfolding calls.request_whole
 whole_keeps P R is p who write descriptor start address size has =
     checked_keeps R (calls.request_checks p who descriptor write start address size (negsuc 0) ((not (calls.any_waits p (natural descriptor)) otherwise er.Obj) ∷ [])) p _ (is.ends p.base has)
@@ -78,11 +82,13 @@ whole_keeps P R is p who write descriptor start address size has =
 
 -- ---- endings
 
-waited_keeps : (P R : Base → Type 0) → IsPassed P R → (p : DevParts) (t dd : ℕ) (timeout : ℤ) (asked_for : Wish) (picked : Option ℕ) → P p.base → R (calls.ending_waited p t dd timeout asked_for picked).parts.base
+waited_keeps : (P R : Base → Type 0) → IsPassed P R → (p : DevParts) (t dd : ℕ) (timeout : ℤ) (asked_for : Wish) (picked : Option ℕ) → P p.base →
+    R (calls.ending_waited p t dd timeout asked_for picked).parts.base
 waited_keeps P R is p t dd timeout asked_for (Some id) has = is.ends p.base has
 waited_keeps P R is p t dd timeout asked_for None has = wait_keeps P R is p t (requests.ending_object dd) timeout (with_wish p.table t asked_for) has
 
-wait_ending_keeps : (P R : Base → Type 0) → IsPassed P R → (p : DevParts) (who : Who) (descriptor id timeout : ℤ) → P p.base → R (calls.wait_ending p who descriptor id timeout).parts.base
+wait_ending_keeps : (P R : Base → Type 0) → IsPassed P R → (p : DevParts) (who : Who) (descriptor id timeout : ℤ) → P p.base →
+    R (calls.wait_ending p who descriptor id timeout).parts.base
 unfolding calls.wait_ending
 wait_ending_keeps P R is p who descriptor id timeout has =
     let asked_for : Wish = calls.ending_wish p.table (natural id) in

@@ -73,7 +73,8 @@ preempted_then t p q is has = record {
 abbrev pub IsNoStatement : Turn → Type 0
 IsNoStatement turn = (turn ≡ turns.Handler → ⊥) × ((u : ℕ) → turn ≡ turns.Task u → ⊥)
 
-stands_turn : (row : Option Task) (t : ℕ) (Q : Mutexes → Type 0) (script : Script) (mode : Mode) (n : ℕ) (st : State) (turn : Turn) → Settles row t Q → IsNoStatement turn → Stands row t Q (parts_of st) → Stands row t Q (parts_of (done_turn script mode n st turn).state)
+stands_turn : (row : Option Task) (t : ℕ) (Q : Mutexes → Type 0) (script : Script) (mode : Mode) (n : ℕ) (st : State) (turn : Turn) → Settles row t Q →
+    IsNoStatement turn → Stands row t Q (parts_of st) → Stands row t Q (parts_of (done_turn script mode n st turn).state)
 unfolding done_turn
 stands_turn row t Q script mode n st turns.Handler settles none has = absurd (none.0 refl)
 stands_turn row t Q script mode n st (turns.Due what) settles none has = stands_due_begun row t Q n (record st { due = drop 1 st.due }) what has
@@ -83,7 +84,8 @@ stands_turn row t Q script mode n st (turns.Task u) settles none has = absurd (n
 stands_turn row t Q script mode n st turns.Idle settles none has = stands_tick row t Q mode n st settles has
 
 -- a step with all that follows it, where no body goes on
-pub stands_worked : (row : Option Task) (t : ℕ) (Q : Mutexes → Type 0) (script : Script) (mode : Mode) (n : ℕ) (st : State) → Settles row t Q → IsNoStatement (turn_of (made_pending script n st)) → Stands row t Q (parts_of st) → Stands row t Q (parts_of (worked script mode n st).state)
+pub stands_worked : (row : Option Task) (t : ℕ) (Q : Mutexes → Type 0) (script : Script) (mode : Mode) (n : ℕ) (st : State) → Settles row t Q →
+    IsNoStatement (turn_of (made_pending script n st)) → Stands row t Q (parts_of st) → Stands row t Q (parts_of (worked script mode n st).state)
 unfolding worked
 stands_worked row t Q script mode n st settles none has =
     let pending : State = made_pending script n st in
@@ -124,7 +126,8 @@ owning_none_settles row t one ready same = record {
 }
 
 -- settling leaves it owning none
-pub settled_owning_none : (mode : Mode) (p : Parts) (t : ℕ) → 1 ≤ t → FewDevices p → KeepsPlace p.base t → is_ready p.base t ≡ true → current p.base t ≡ base_of p.base t → OwnsNone t p.objects.mutexes →
+pub settled_owning_none : (mode : Mode) (p : Parts) (t : ℕ) → 1 ≤ t → FewDevices p → KeepsPlace p.base t → is_ready p.base t ≡ true →
+    current p.base t ≡ base_of p.base t → OwnsNone t p.objects.mutexes →
     OwnsNone t (settle mode p).objects.mutexes
 settled_owning_none mode p t one few place ready same none =
     (settled_place (task_at p.base t) t (OwnsNone t) mode p (owning_none_settles (task_at p.base t) t one ready same) few (record { base = record { is = refl; place = place }; mutexes = none })).mutexes

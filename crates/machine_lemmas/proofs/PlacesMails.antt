@@ -35,7 +35,8 @@ either_done : (P : Base → Type 0) (test : Bool) (one other : MailDone) → P o
 either_done P true one other first second = first
 either_done P false one other first second = second
 
-wait_keeps : (P R : Base → Type 0) → IsPassed P R → (p : MailParts) (t object : ℕ) (order : Order) (timeout : ℤ) (asked : Mails) → P p.base → R (waits_or_ends p t object order timeout asked).base
+wait_keeps : (P R : Base → Type 0) → IsPassed P R → (p : MailParts) (t object : ℕ) (order : Order) (timeout : ℤ) (asked : Mails) → P p.base →
+    R (waits_or_ends p t object order timeout asked).base
 wait_keeps P R is p t object order timeout asked has =
     either_done R (int_eq timeout (pos 0)) (mail_done p (failed er.TmOut)) (mail_done (record p { base = make_wait p.base t object order timeout; table = asked }) outcomes.Blocked) (is.ends p.base has) (is.waits p.base t object order timeout has)
 
@@ -43,17 +44,20 @@ wait_keeps P R is p t object order timeout asked has =
 
 box_emptied_keeps : (P R : Base → Type 0) → IsPassed P R → (b : Base) (id : ℕ) (slot : Option Mailbox) → P b → P (calls.box_emptied b id slot)
 box_emptied_keeps P R is b id None has = has
-box_emptied_keeps P R is b id (Some k) has = is.given (end_waits k.order (box_object id) b) (length k.messages * message_bytes) (end_waits_keeps P R is k.order (box_object id) b has)
+box_emptied_keeps P R is b id (Some k) has =
+    is.given (end_waits k.order (box_object id) b) (length k.messages * message_bytes) (end_waits_keeps P R is k.order (box_object id) b has)
 
 put_keeps : (P R : Base → Type 0) → IsPassed P R → (p : MailParts) (id : ℕ) (message : Message) (slot : Option Mailbox) → P p.base → R (calls.put_in_box p id message slot).base
 put_keeps P R is p id message None has = is.ends p.base has
 put_keeps P R is p id message (Some k) has = is.ends _ (is.taken p.base message_bytes has)
 
-taken_keeps : (P R : Base → Type 0) → IsPassed P R → (p : MailParts) (t id : ℕ) (timeout : ℤ) (k : Mailbox) (messages : List Message) → P p.base → R (calls.taken_from_box p t id timeout k messages).base
+taken_keeps : (P R : Base → Type 0) → IsPassed P R → (p : MailParts) (t id : ℕ) (timeout : ℤ) (k : Mailbox) (messages : List Message) → P p.base →
+    R (calls.taken_from_box p t id timeout k messages).base
 taken_keeps P R is p t id timeout k [] has = wait_keeps P R is p t (box_object id) k.order timeout p.table has
 taken_keeps P R is p t id timeout k (first ∷ rest) has = is.ends _ (is.given p.base message_bytes has)
 
-box_keeps : (P R : Base → Type 0) → IsPassed P R → (p : MailParts) (t id : ℕ) (timeout : ℤ) (slot : Option Mailbox) → P p.base → R (calls.received_from_box p t id timeout slot).base
+box_keeps : (P R : Base → Type 0) → IsPassed P R → (p : MailParts) (t id : ℕ) (timeout : ℤ) (slot : Option Mailbox) → P p.base →
+    R (calls.received_from_box p t id timeout slot).base
 box_keeps P R is p t id timeout None has = is.ends p.base has
 box_keeps P R is p t id timeout (Some k) has = taken_keeps P R is p t id timeout k k.messages has
 
@@ -73,30 +77,38 @@ either_sent : (P : Base → Type 0) (test : Bool) (one other : Option MailParts)
 either_sent P true one other first second = first
 either_sent P false one other first second = second
 
-at_once_keeps : (P R : Base → Type 0) → IsPassed P R → (p : MailParts) (id : ℕ) (k : MessageBuffer) (first : Bool) (receiver : Option ℕ) (messages : List (List ℕ)) (bytes : List ℕ) → P p.base → Sent P (sent_at_once p id k first receiver messages bytes)
+at_once_keeps : (P R : Base → Type 0) → IsPassed P R →
+    (p : MailParts) (id : ℕ) (k : MessageBuffer) (first : Bool) (receiver : Option ℕ) (messages : List (List ℕ)) (bytes : List ℕ) → P p.base →
+    Sent P (sent_at_once p id k first receiver messages bytes)
 at_once_keeps P R is p id k false receiver messages bytes has = tt
 at_once_keeps P R is p id k true (Some receiver) (oldest ∷ later) bytes has = tt
 at_once_keeps P R is p id k true (Some receiver) [] bytes has = is.released p.base receiver (plain (pos (length bytes))) has
 at_once_keeps P R is p id k true None messages bytes has = either_sent P (has_space k bytes) (Some (message_stored p id k bytes)) None has tt
 
-sent_or_waits_keeps : (P R : Base → Type 0) → IsPassed P R → (p : MailParts) (t id : ℕ) (k : MessageBuffer) (timeout : ℤ) (bytes : List ℕ) (left : Option MailParts) → P p.base → Sent P left → R (calls.sent_or_waits p t id k timeout bytes left).base
+sent_or_waits_keeps : (P R : Base → Type 0) → IsPassed P R → (p : MailParts) (t id : ℕ) (k : MessageBuffer) (timeout : ℤ) (bytes : List ℕ) (left : Option MailParts) →
+    P p.base → Sent P left → R (calls.sent_or_waits p t id k timeout bytes left).base
 sent_or_waits_keeps P R is p t id k timeout bytes (Some left) has sent = is.ends left.base sent
 sent_or_waits_keeps P R is p t id k timeout bytes None has sent = wait_keeps P R is p t (senders_object id) k.order timeout (asked_to_send p.table t bytes) has
 
-send_keeps : (P R : Base → Type 0) → IsPassed P R → (p : MailParts) (t id : ℕ) (bytes : List ℕ) (timeout : ℤ) (slot : Option MessageBuffer) → P p.base → R (calls.sent_to_buffer p t id bytes timeout slot).base
+send_keeps : (P R : Base → Type 0) → IsPassed P R → (p : MailParts) (t id : ℕ) (bytes : List ℕ) (timeout : ℤ) (slot : Option MessageBuffer) → P p.base →
+    R (calls.sent_to_buffer p t id bytes timeout slot).base
 send_keeps P R is p t id bytes timeout None has = is.ends p.base has
 send_keeps P R is p t id bytes timeout (Some k) has =
     sent_or_waits_keeps P R is p t id k timeout bytes _ has (at_once_keeps P R is p id k (would_be_first k.order p.base t (senders p.base k id)) (first_of (receivers p.base id)) k.messages bytes has)
 
-by_caller_keeps : (P R : Base → Type 0) → IsPassed P R → (p : MailParts) (t id : ℕ) (k : MessageBuffer) (address : ℕ) (timeout : ℤ) (receiver sender : Option ℕ) (messages : List (List ℕ)) → P p.base → R (calls.taken_by_caller p t id k address timeout receiver sender messages).base
+by_caller_keeps : (P R : Base → Type 0) → IsPassed P R →
+    (p : MailParts) (t id : ℕ) (k : MessageBuffer) (address : ℕ) (timeout : ℤ) (receiver sender : Option ℕ) (messages : List (List ℕ)) → P p.base →
+    R (calls.taken_by_caller p t id k address timeout receiver sender messages).base
 by_caller_keeps P R is p t id k address timeout (Some receiver) sender messages has = wait_keeps P R is p t (receivers_object id) Fifo timeout (asked_into p.table t address) has
 by_caller_keeps P R is p t id k address timeout None sender (oldest ∷ later) has = is.ends p.base has
 by_caller_keeps P R is p t id k address timeout None (Some sender) [] has = is.ends _ (is.released p.base sender (plain (pos 0)) has)
 by_caller_keeps P R is p t id k address timeout None None [] has = wait_keeps P R is p t (receivers_object id) Fifo timeout (asked_into p.table t address) has
 
-receive_keeps : (P R : Base → Type 0) → IsPassed P R → (p : MailParts) (t id address : ℕ) (timeout : ℤ) (slot : Option MessageBuffer) → P p.base → R (calls.received_from_buffer p t id address timeout slot).base
+receive_keeps : (P R : Base → Type 0) → IsPassed P R → (p : MailParts) (t id address : ℕ) (timeout : ℤ) (slot : Option MessageBuffer) → P p.base →
+    R (calls.received_from_buffer p t id address timeout slot).base
 receive_keeps P R is p t id address timeout None has = is.ends p.base has
-receive_keeps P R is p t id address timeout (Some k) has = by_caller_keeps P R is p t id k address timeout (first_of (receivers p.base id)) (first_of (senders p.base k id)) k.messages has
+receive_keeps P R is p t id address timeout (Some k) has =
+    by_caller_keeps P R is p t id k address timeout (first_of (receivers p.base id)) (first_of (senders p.base k id)) k.messages has
 
 -- ---- sending from the kernel itself
 
@@ -119,11 +131,13 @@ unfolding mail_call calls.create_box calls.delete_box calls.send_box calls.recei
 mail_calls_keep P R is p who (call.CreMbx attributes) has = checked_keeps R (calls.create_box_checks p.table attributes) p _ (is.ends p.base has) (is.ends p.base has)
 mail_calls_keep P R is p who (call.DelMbx id) has =
     checked_keeps R (object_checks id (has_mbx p.table (natural id)) []) p _ (is.ends p.base has) (is.ends _ (box_emptied_keeps P R is p.base (natural id) (box_at p.table (natural id)) has))
-mail_calls_keep P R is p who (call.SndMbx id priority value) has = checked_keeps R (calls.send_box_checks p id priority value) p _ (is.ends p.base has) (put_keeps P R is p (natural id) _ (box_at p.table (natural id)) has)
+mail_calls_keep P R is p who (call.SndMbx id priority value) has =
+    checked_keeps R (calls.send_box_checks p id priority value) p _ (is.ends p.base has) (put_keeps P R is p (natural id) _ (box_at p.table (natural id)) has)
 mail_calls_keep P R is p who (call.RcvMbx id timeout) has =
     checked_keeps R (calls.receive_box_checks p who id timeout) p _ (is.ends p.base has) (box_keeps P R is p (caller who) (natural id) timeout (box_at p.table (natural id)) has)
 mail_calls_keep P R is p who (call.RefMbx id) has = checked_keeps R (object_checks id (has_mbx p.table (natural id)) []) p _ (is.ends p.base has) (is.ends p.base has)
-mail_calls_keep P R is p who (call.CreMbf attributes size most) has = checked_keeps R (calls.create_buffer_checks p attributes size most) p _ (is.ends p.base has) (is.ends _ (is.taken p.base (natural size) has))
+mail_calls_keep P R is p who (call.CreMbf attributes size most) has =
+    checked_keeps R (calls.create_buffer_checks p attributes size most) p _ (is.ends p.base has) (is.ends _ (is.taken p.base (natural size) has))
 mail_calls_keep P R is p who (call.SndMbf id address n timeout) has =
     checked_keeps R (calls.send_buffer_checks p who id address n timeout) p _ (is.ends p.base has)
     (send_keeps P R is p (caller who) (natural id) (bytes_at p.memory (natural address) (natural n)) timeout (buffer_at p.table (natural id)) has)

@@ -62,7 +62,8 @@ waits_other : (b : Base) (t u object : ℕ) (order : Order) (timeout : ℤ) → 
 waits_other b t u object order (pos n) apart = entry_cases (λ c. task_at c t ≡ task_at b t) (task_at b u) b _ refl (λ k at. entry_other b.tasks u t _ apart)
 waits_other b t u object order (negsuc n) apart = entry_cases (λ c. task_at c t ≡ task_at b t) (task_at b u) b _ refl (λ k at. entry_other b.tasks u t _ apart)
 
-waits_if : (row : Option Task) (t : ℕ) (b : Base) (u object : ℕ) (order : Order) (timeout : ℤ) (same : Bool) → (t == u) ≡ same → may_run row ≡ true → HasPlace row t b → PlaceIfReady row t (make_wait b u object order timeout)
+waits_if : (row : Option Task) (t : ℕ) (b : Base) (u object : ℕ) (order : Order) (timeout : ℤ) (same : Bool) → (t == u) ≡ same → may_run row ≡ true → HasPlace row t b →
+    PlaceIfReady row t (make_wait b u object order timeout)
 waits_if row t b u object order timeout true at ready has now =
     let e : t ≡ u = grind (arith, nat_tests, at) in
     absurd (waits_unready b u object order timeout (ap (is_ready b) (sym e) ∙ ap may_run has.is ∙ ready) (ap (is_ready (make_wait b u object order timeout)) (sym e) ∙ now))

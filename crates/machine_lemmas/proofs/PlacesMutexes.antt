@@ -53,7 +53,8 @@ wait_keeps : (P R : Base → Type 0) → IsPassed P R → (b : Base) (m : Mutexe
 wait_keeps P R is b m t id order timeout has =
     either_done R (int_eq timeout (pos 0)) (record { base = b; table = m; outcome = failed er.TmOut }) (record { base = make_wait b t (mutex_object id) order timeout; table = m; outcome = outcomes.Blocked }) (is.ends b has) (is.waits b t (mutex_object id) order timeout has)
 
-waited_keeps : (P R : Base → Type 0) → IsPassed P R → (b : Base) (m : Mutexes) (t id : ℕ) (timeout : ℤ) (slot : Option Mutex) → P b → R (waited_for_mutex b m t id timeout slot).base
+waited_keeps : (P R : Base → Type 0) → IsPassed P R → (b : Base) (m : Mutexes) (t id : ℕ) (timeout : ℤ) (slot : Option Mutex) → P b →
+    R (waited_for_mutex b m t id timeout slot).base
 waited_keeps P R is b m t id timeout None has = is.ends b has
 waited_keeps P R is b m t id timeout (Some k) has = either_done R (k.owner == 0) (table_changed b (locked m id k t) (pos 0)) (waits_or_ends b m t id k.order timeout) (is.ends b has) (wait_keeps P R is b m t id k.order timeout has)
 
@@ -61,7 +62,8 @@ waited_keeps P R is b m t id timeout (Some k) has = either_done R (k.owner == 0)
 pub mutex_calls_keep : (P R : Base → Type 0) → IsPassed P R → (b : Base) (m : Mutexes) (who : Who) (c : MutexCall) → P b → R (mutex_call b m who c).base
 unfolding mutex_call calls.create_mutex calls.lock_mutex calls.unlock_mutex calls.refer_mutex calls.delete_mutex
 mutex_calls_keep P R is b m who (call.CreMtx attributes ceiling) has = checked_keeps R (calls.create_checks m attributes ceiling) b m _ (is.ends b has) (is.ends b has)
-mutex_calls_keep P R is b m who (call.LocMtx id timeout) has = checked_keeps R (calls.lock_checks b m who id timeout) b m _ (is.ends b has) (waited_keeps P R is b m (caller who) (natural id) timeout (mutex_at m (natural id)) has)
+mutex_calls_keep P R is b m who (call.LocMtx id timeout) has =
+    checked_keeps R (calls.lock_checks b m who id timeout) b m _ (is.ends b has) (waited_keeps P R is b m (caller who) (natural id) timeout (mutex_at m (natural id)) has)
 mutex_calls_keep P R is b m who (call.UnlMtx id) has = checked_keeps R (calls.unlock_checks b m who id) b m _ (is.ends b has) (is.ends b has)
 mutex_calls_keep P R is b m who (call.RefMtx id) has = checked_keeps R (object_checks id (has_mutex m (natural id)) []) b m _ (is.ends b has) (is.ends b has)
 mutex_calls_keep P R is b m who (call.DelMtx id) has =
@@ -76,7 +78,8 @@ either_without : (t : ℕ) (test : Bool) (one other : MutexDone) → Without t o
 either_without t true one other first second = first
 either_without t false one other first second = second
 
-waited_without : (t : ℕ) (b : Base) (m : Mutexes) (u id : ℕ) (timeout : ℤ) (slot : Option Mutex) → 1 ≤ t → (u ≡ t → ⊥) → OwnsNone t m → Without t (waited_for_mutex b m u id timeout slot)
+waited_without : (t : ℕ) (b : Base) (m : Mutexes) (u id : ℕ) (timeout : ℤ) (slot : Option Mutex) → 1 ≤ t → (u ≡ t → ⊥) → OwnsNone t m →
+    Without t (waited_for_mutex b m u id timeout slot)
 waited_without t b m u id timeout None one apart none = none
 waited_without t b m u id timeout (Some k) one apart none =
     either_without t (k.owner == 0) (table_changed b (locked m id k u) (pos 0)) (waits_or_ends b m u id k.order timeout)
@@ -107,7 +110,8 @@ call_without t b m who (call.DelMtx id) one apart none =
 -- ---- the call
 
 -- a call on mutexes that another task makes, before what follows it
-pub mutex_called : (row : Option Task) (t : ℕ) (mode : Mode) (n : ℕ) (st : State) (u : ℕ) (c : MutexCall) → 1 ≤ t → may_run row ≡ true → (caller (who_of u) ≡ t → ⊥) → Stands row t (OwnsNone t) (parts_of st) →
+pub mutex_called : (row : Option Task) (t : ℕ) (mode : Mode) (n : ℕ) (st : State) (u : ℕ) (c : MutexCall) → 1 ≤ t → may_run row ≡ true → (caller (who_of u) ≡ t → ⊥) →
+    Stands row t (OwnsNone t) (parts_of st) →
     StandsIf row t (OwnsNone t) (parts_of (called mode n st u (all_calls.Mutex c)).state)
 unfolding family_call
 mutex_called row t mode n st u c one ready apart has =
@@ -121,7 +125,8 @@ mutex_called row t mode n st u c one ready apart has =
     })
 
 -- and with all that follows it
-pub mutex_followed : (row : Option Task) (t : ℕ) (script : Script) (mode : Mode) (n : ℕ) (st : State) (u : ℕ) (c : MutexCall) → Settles row t (OwnsNone t) → (caller (who_of u) ≡ t → ⊥) → Stands row t (OwnsNone t) (parts_of st) →
+pub mutex_followed : (row : Option Task) (t : ℕ) (script : Script) (mode : Mode) (n : ℕ) (st : State) (u : ℕ) (c : MutexCall) → Settles row t (OwnsNone t) →
+    (caller (who_of u) ≡ t → ⊥) → Stands row t (OwnsNone t) (parts_of st) →
     is_ready (called mode n st u (all_calls.Mutex c)).state.base t ≡ true → Stands row t (OwnsNone t) (parts_of (followed script mode n (called mode n st u (all_calls.Mutex c)).state).state)
 mutex_followed row t script mode n st u c settles apart has now =
     stands_followed row t (OwnsNone t) script mode n (called mode n st u (all_calls.Mutex c)).state settles (mutex_called row t mode n st u c settles.least settles.ready apart has now)

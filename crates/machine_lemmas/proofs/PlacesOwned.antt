@@ -84,8 +84,10 @@ pub record Passes (t : ℕ) (Q : Mutexes → Type 0) : Type 0 where
   pub frees : (m : Mutexes) (id u : ℕ) → owner_of m id ≡ u → (u ≡ t → ⊥) → Q m → Q (freed m id)
 
 -- a slot that isn't this task's is written
-pub written_none : (m : Mutexes) (t id : ℕ) (slot : Option Mutex) (locks : List ℕ) → OwnsNone t m → 1 ≤ t → (owner_in slot ≡ t → ⊥) → OwnsNone t (record (with_mutex m id slot) { locks = locks })
-written_none m t id slot locks none one apart = entry_each (λ i o. owner_in o ≡ t → ⊥) m.table id slot (entry_same (λ o. owner_in o ≡ t → ⊥) m.table id slot apart (λ is. omega (arith, one, is))) (λ j differs. none j)
+pub written_none : (m : Mutexes) (t id : ℕ) (slot : Option Mutex) (locks : List ℕ) → OwnsNone t m → 1 ≤ t → (owner_in slot ≡ t → ⊥) →
+    OwnsNone t (record (with_mutex m id slot) { locks = locks })
+written_none m t id slot locks none one apart =
+    entry_each (λ i o. owner_in o ≡ t → ⊥) m.table id slot (entry_same (λ o. owner_in o ≡ t → ⊥) m.table id slot apart (λ is. omega (arith, one, is))) (λ j differs. none j)
 
 -- a mutex that is freed has no owner
 pub freed_owner : (o : Option Mutex) (t : ℕ) → 1 ≤ t → owner_in (option_map {T = Mutex} (λ k. record k { owner = 0 }) o) ≡ t → ⊥
@@ -101,33 +103,39 @@ none_passes t one = record {
 
 -- ---- the serving of a mutex
 
-of_waiter : (Q : Mutexes → Type 0) (t : ℕ) (b : Base) (m : Mutexes) (id : ℕ) (k : Mutex) (parts : MutexParts) (waiters : List ℕ) → Passes t Q → is_ready b t ≡ true → mutex_at m id ≡ Some k → k.owner ≡ 0 →
+of_waiter : (Q : Mutexes → Type 0) (t : ℕ) (b : Base) (m : Mutexes) (id : ℕ) (k : Mutex) (parts : MutexParts) (waiters : List ℕ) → Passes t Q → is_ready b t ≡ true →
+    mutex_at m id ≡ Some k → k.owner ≡ 0 →
     mutex_waiters b k id ≡ waiters → serve_mutex_of b m id k waiters ≡ Some parts → Q m → Q parts.table
 of_waiter Q t b m id k parts [] passes ready at free is served has = absurd (cc served)
 of_waiter Q t b m id k parts (u ∷ rest) passes ready at free is served has =
     let e : record { base = release b u (plain (pos 0)); table = locked m id k u } ≡ parts = cc served in
     subst (λ (left : MutexParts). Q left.table) e (passes.locks m id k u at free (ready_apart b t u (mutex_object id) ready (first_waits k.order b (mutex_object id) u rest is)) has)
 
-by_owner : (Q : Mutexes → Type 0) (parts : MutexParts) (k : Mutex) (free : Bool) (served : Option MutexParts) → (k.owner == 0) ≡ free → cond free served None ≡ Some parts → (k.owner ≡ 0 → served ≡ Some parts → Q parts.table) → Q parts.table
+by_owner : (Q : Mutexes → Type 0) (parts : MutexParts) (k : Mutex) (free : Bool) (served : Option MutexParts) → (k.owner == 0) ≡ free →
+    cond free served None ≡ Some parts → (k.owner ≡ 0 → served ≡ Some parts → Q parts.table) → Q parts.table
 by_owner Q parts k true served at is by = by (same_number k.owner 0 at) is
 by_owner Q parts k false served at is by = absurd (cc is)
 
-of_slot : (Q : Mutexes → Type 0) (t : ℕ) (b : Base) (m : Mutexes) (id : ℕ) (parts : MutexParts) (slot : Option Mutex) → Passes t Q → is_ready b t ≡ true → mutex_at m id ≡ slot → serve_mutex_at b m id slot ≡ Some parts → Q m → Q parts.table
+of_slot : (Q : Mutexes → Type 0) (t : ℕ) (b : Base) (m : Mutexes) (id : ℕ) (parts : MutexParts) (slot : Option Mutex) → Passes t Q → is_ready b t ≡ true →
+    mutex_at m id ≡ slot → serve_mutex_at b m id slot ≡ Some parts → Q m → Q parts.table
 of_slot Q t b m id parts None passes ready at served has = absurd (cc served)
 of_slot Q t b m id parts (Some k) passes ready at served has =
     by_owner Q parts k (k.owner == 0) (serve_mutex_of b m id k (mutex_waiters b k id)) refl served (λ free is. of_waiter Q t b m id k parts (mutex_waiters b k id) passes ready at free refl is has)
 
-of_mutex : (Q : Mutexes → Type 0) (t : ℕ) (b : Base) (m : Mutexes) (id : ℕ) (parts : MutexParts) → Passes t Q → is_ready b t ≡ true → serve_mutex b m id ≡ Some parts → Q m → Q parts.table
+of_mutex : (Q : Mutexes → Type 0) (t : ℕ) (b : Base) (m : Mutexes) (id : ℕ) (parts : MutexParts) → Passes t Q → is_ready b t ≡ true → serve_mutex b m id ≡ Some parts →
+    Q m → Q parts.table
 unfolding serve_mutex
 of_mutex Q t b m id parts passes ready served has = of_slot Q t b m id parts (mutex_at m id) passes ready refl served has
 
-mutexes_pass : (Q : Mutexes → Type 0) (t : ℕ) (b : Base) (m : Mutexes) (parts : MutexParts) → Passes t Q → is_ready b t ≡ true → serve_mutexes b m ≡ Some parts → Q m → Q parts.table
+mutexes_pass : (Q : Mutexes → Type 0) (t : ℕ) (b : Base) (m : Mutexes) (parts : MutexParts) → Passes t Q → is_ready b t ≡ true → serve_mutexes b m ≡ Some parts → Q m →
+    Q parts.table
 unfolding serve_mutexes
 mutexes_pass Q t b m parts passes ready is has = let from = first_from (serve_mutex b m) parts (drop 1 m.table) is in of_mutex Q t b m from.id parts passes ready from.at has
 
 -- ---- any serving
 
-mapped : {A : Type 0} → (P : Parts → Type 0) (q : Parts) (put : A → Parts) (served : Option A) → option_map put served ≡ Some q → ((left : A) → served ≡ Some left → P (put left)) → P q
+mapped : {A : Type 0} → (P : Parts → Type 0) (q : Parts) (put : A → Parts) (served : Option A) → option_map put served ≡ Some q →
+    ((left : A) → served ≡ Some left → P (put left)) → P q
 mapped P q put None is serving = absurd (cc is)
 mapped P q put (Some left) is serving = let e : put left ≡ q = cc is in subst P e (serving left refl)
 
@@ -135,7 +143,8 @@ Each : (Parts → Type 0) → List (Parts → Option Parts) → Parts → Parts 
 Each P [] p q = Unit {0}
 Each P (kind ∷ later) p q = (kind p ≡ Some q → P q) × Each P later p q
 
-first_of_two : (P : Parts → Type 0) (p q : Parts) (here : Option Parts) (later : List (Parts → Option Parts)) → elim here as (λ _. Option Parts) [ Some served ↦ Some served | None ↦ first_serving later p ] ≡ Some q →
+first_of_two : (P : Parts → Type 0) (p q : Parts) (here : Option Parts) (later : List (Parts → Option Parts)) →
+    elim here as (λ _. Option Parts) [ Some served ↦ Some served | None ↦ first_serving later p ] ≡ Some q →
     (here ≡ Some q → P q) → (first_serving later p ≡ Some q → P q) → P q
 first_of_two P p q (Some served) later is by rest = by is
 first_of_two P p q None later is by rest = rest is

@@ -39,15 +39,18 @@ flag_ended_keeps P R is b id (Some k) has = end_waits_keeps P R is k.order (flag
 
 -- ---- waiting
 
-wait_keeps : (P R : Base → Type 0) → IsPassed P R → (b : Base) (s : SemFlags) (t object : ℕ) (order : Order) (timeout : ℤ) (asked : SemFlags) → P b → R (waits_or_ends b s t object order timeout asked).base
+wait_keeps : (P R : Base → Type 0) → IsPassed P R → (b : Base) (s : SemFlags) (t object : ℕ) (order : Order) (timeout : ℤ) (asked : SemFlags) → P b →
+    R (waits_or_ends b s t object order timeout asked).base
 wait_keeps P R is b s t object order timeout asked has =
     either_done R (int_eq timeout (pos 0)) (record { base = b; table = s; outcome = failed er.TmOut }) (record { base = make_wait b t object order timeout; table = asked; outcome = outcomes.Blocked }) (is.ends b has) (is.waits b t object order timeout has)
 
-sem_keeps : (P R : Base → Type 0) → IsPassed P R → (b : Base) (s : SemFlags) (t id n : ℕ) (timeout : ℤ) (slot : Option Semaphore) → P b → R (waited_for_sem b s t id n timeout slot).base
+sem_keeps : (P R : Base → Type 0) → IsPassed P R → (b : Base) (s : SemFlags) (t id n : ℕ) (timeout : ℤ) (slot : Option Semaphore) → P b →
+    R (waited_for_sem b s t id n timeout slot).base
 sem_keeps P R is b s t id n timeout None has = is.ends b has
 sem_keeps P R is b s t id n timeout (Some k) has = either_done R (serves_at_once b k id t n) _ _ (is.ends b has) (wait_keeps P R is b s t (sem_object id) k.order timeout _ has)
 
-flag_keeps : (P R : Base → Type 0) → IsPassed P R → (b : Base) (s : SemFlags) (t id : ℕ) (wish : FlagWish) (timeout : ℤ) (slot : Option EventFlag) → P b → R (waited_for_flag b s t id wish timeout slot).base
+flag_keeps : (P R : Base → Type 0) → IsPassed P R → (b : Base) (s : SemFlags) (t id : ℕ) (wish : FlagWish) (timeout : ℤ) (slot : Option EventFlag) → P b →
+    R (waited_for_flag b s t id wish timeout slot).base
 flag_keeps P R is b s t id wish timeout None has = is.ends b has
 flag_keeps P R is b s t id wish timeout (Some k) has = either_done R (has_bits k.pattern wish) _ _ (is.ends b has) (wait_keeps P R is b s t (flag_object id) k.order timeout _ has)
 

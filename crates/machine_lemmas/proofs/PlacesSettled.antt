@@ -106,18 +106,22 @@ refreshed_place row t Q p settles has =
     }
 
 -- somebody is served
-served_place : (row : Option Task) (t : ℕ) (Q : Mutexes → Type 0) (p q : Parts) → Settles row t Q → FewDevices p → serve_object p ≡ Some q → IsInPlace row t Q p → IsInPlace row t Q q
+served_place : (row : Option Task) (t : ℕ) (Q : Mutexes → Type 0) (p q : Parts) → Settles row t Q → FewDevices p → serve_object p ≡ Some q → IsInPlace row t Q p →
+    IsInPlace row t Q q
 served_place row t Q p q settles few is has = record {
   base = (serving p q few is).ends.keeps (HasPlace row t) (place_survives row t settles.ready) has.base;
   mutexes = served_passes Q t p q settles.passes (ap may_run has.base.is ∙ settles.ready) is has.mutexes;
 }
 
-next_place : (row : Option Task) (t : ℕ) (Q : Mutexes → Type 0) (left : ℕ) (p : Parts) (next : Option Parts) → Settles row t Q → serve_object p ≡ next → FewDevices p → IsInPlace row t Q p →
+next_place : (row : Option Task) (t : ℕ) (Q : Mutexes → Type 0) (left : ℕ) (p : Parts) (next : Option Parts) → Settles row t Q → serve_object p ≡ next → FewDevices p →
+    IsInPlace row t Q p →
     ((q : Parts) → FewDevices q → IsInPlace row t Q q → IsInPlace row t Q (served_within left q)) → IsInPlace row t Q (next_served left p next)
 next_place row t Q left p None settles is few has rest = has
-next_place row t Q left p (Some q) settles is few has rest = rest (refreshed q) (few_served p q few is) (refreshed_place row t Q q settles (served_place row t Q p q settles few is has))
+next_place row t Q left p (Some q) settles is few has rest =
+    rest (refreshed q) (few_served p q few is) (refreshed_place row t Q q settles (served_place row t Q p q settles few is has))
 
-within_place : (row : Option Task) (t : ℕ) (Q : Mutexes → Type 0) (left : ℕ) (p : Parts) → Settles row t Q → FewDevices p → IsInPlace row t Q p → IsInPlace row t Q (served_within left p)
+within_place : (row : Option Task) (t : ℕ) (Q : Mutexes → Type 0) (left : ℕ) (p : Parts) → Settles row t Q → FewDevices p → IsInPlace row t Q p →
+    IsInPlace row t Q (served_within left p)
 unfolding served_within
 within_place row t Q zero p settles few has = has
 within_place row t Q (suc left) p settles few has = next_place row t Q left p (serve_object p) settles refl few has (λ q few has. within_place row t Q left q settles few has)
@@ -127,6 +131,8 @@ handed_place row t Q modes.Sync p has = has
 handed_place row t Q modes.Free p has = record { base = has.base; mutexes = has.mutexes }
 
 -- all settles
-pub settled_place : (row : Option Task) (t : ℕ) (Q : Mutexes → Type 0) (mode : Mode) (p : Parts) → Settles row t Q → FewDevices p → IsInPlace row t Q p → IsInPlace row t Q (settle mode p)
+pub settled_place : (row : Option Task) (t : ℕ) (Q : Mutexes → Type 0) (mode : Mode) (p : Parts) → Settles row t Q → FewDevices p → IsInPlace row t Q p →
+    IsInPlace row t Q (settle mode p)
 unfolding settle
-settled_place row t Q mode p settles few has = handed_place row t Q mode (served_within 512 (refreshed p)) (within_place row t Q 512 (refreshed p) settles few (refreshed_place row t Q p settles has))
+settled_place row t Q mode p settles few has =
+    handed_place row t Q mode (served_within 512 (refreshed p)) (within_place row t Q 512 (refreshed p) settles few (refreshed_place row t Q p settles has))

@@ -29,7 +29,8 @@ fell_place mode n st (suc u) zero t inside is = absurd (cc (inside refl))
 fell_place mode n st (suc u) (suc depth) t inside is = returned_place n st (suc u) t (pos 0) is
 
 -- what a statement asks for, where that is no call
-pub acted_place : (mode : Mode) (n : ℕ) (st : State) (u : ℕ) (act : Act) (t : ℕ) → ((call : Call) → act ≡ acts.Call call → ⊥) → (act ≡ acts.Fell → depth_in st.objects.contexts u ≡ 0 → u ≡ 0) → KeepsPlace st.base t →
+pub acted_place : (mode : Mode) (n : ℕ) (st : State) (u : ℕ) (act : Act) (t : ℕ) → ((call : Call) → act ≡ acts.Call call → ⊥) →
+    (act ≡ acts.Fell → depth_in st.objects.contexts u ≡ 0 → u ≡ 0) → KeepsPlace st.base t →
     KeepsPlace (acted mode n st u act).state.base t
 unfolding acted
 acted_place mode n st u acts.Computed t no_call inside is = is

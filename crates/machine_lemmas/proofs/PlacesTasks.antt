@@ -46,7 +46,8 @@ pub record TakesNoPlace (b : Base) (who : Who) (t : ℕ) (it : TaskCall) : Type 
 
 -- ---- rotation
 
-head_if : (passes : ℕ → Bool) (v first : ℕ) (ts rest : List ℕ) (test : Bool) → passes first ≡ test → cond test (first ∷ rest) rest ≡ v ∷ ts → (rest ≡ v ∷ ts → passes v ≡ true) → passes v ≡ true
+head_if : (passes : ℕ → Bool) (v first : ℕ) (ts rest : List ℕ) (test : Bool) → passes first ≡ test → cond test (first ∷ rest) rest ≡ v ∷ ts →
+    (rest ≡ v ∷ ts → passes v ≡ true) → passes v ≡ true
 head_if passes v first ts rest true at is later = let e : first ≡ v = cc is in ap passes (sym e) ∙ at
 head_if passes v first ts rest false at is later = later is
 
@@ -55,7 +56,8 @@ head_passes : (passes : ℕ → Bool) (ids : List ℕ) (v : ℕ) (ts : List ℕ)
 head_passes passes [] v ts is = absurd (cc is)
 head_passes passes (first ∷ ids) v ts is = head_if passes v first ts (filter passes ids) (passes first) refl is (head_passes passes ids v ts)
 
-rotated_first : (b : Base) (t priority : ℕ) (ids : List ℕ) → ready_of b priority ≡ ids → (priority ≡ current b t → ⊥) → KeepsPlace b t → KeepsPlace (record b { order = back_if_any ids b.order }) t
+rotated_first : (b : Base) (t priority : ℕ) (ids : List ℕ) → ready_of b priority ≡ ids → (priority ≡ current b t → ⊥) → KeepsPlace b t →
+    KeepsPlace (record b { order = back_if_any ids b.order }) t
 rotated_first b t priority [] is apart has = record { before = has.before; behind = has.behind; stands = has.stands; ahead = has.ahead }
 rotated_first b t priority (v ∷ ts) is apart has =
     let test : (current b v == priority) ≡ true = second (is_ready b v) (current b v == priority) (head_passes (is_ready_with b priority) b.order v ts is) in
@@ -71,7 +73,8 @@ enabled_if : (b c : Base) (t : ℕ) (ran : Bool) → Keeps b t c → Keeps b t (
 enabled_if b c t true keeps = flags_keep b c t _ keeps
 enabled_if b c t false keeps = keeps
 
-slept_if : (b : Base) (t u : ℕ) (timeout : ℤ) (over : Bool) → KeepsPlace b t → Keeps b t (cond {A = TaskDone} over (record { base = b; outcome = failed er.TmOut }) (record { base = make_wait b u TaskCalls.sleep_object Fifo timeout; outcome = outcomes.Blocked })).base
+slept_if : (b : Base) (t u : ℕ) (timeout : ℤ) (over : Bool) → KeepsPlace b t →
+    Keeps b t (cond {A = TaskDone} over (record { base = b; outcome = failed er.TmOut }) (record { base = make_wait b u TaskCalls.sleep_object Fifo timeout; outcome = outcomes.Blocked })).base
 slept_if b t u timeout true is = λ now same. is
 slept_if b t u timeout false is = wait_keeps b t u TaskCalls.sleep_object Fifo timeout is
 
@@ -79,7 +82,8 @@ slept_keeps : (b : Base) (t u : ℕ) (timeout : ℤ) (requests : ℕ) → KeepsP
 slept_keeps b t u timeout zero is = slept_if b t u timeout (int_eq timeout (pos 0)) is
 slept_keeps b t u timeout (suc requests) is = wakeups_keep b t u requests is
 
-delayed_if : (b : Base) (t u : ℕ) (time : ℤ) (over : Bool) → KeepsPlace b t → Keeps b t (cond {A = TaskDone} over (TaskCalls.finished b) (record { base = make_wait b u TaskCalls.delay_object Fifo time; outcome = outcomes.Blocked })).base
+delayed_if : (b : Base) (t u : ℕ) (time : ℤ) (over : Bool) → KeepsPlace b t →
+    Keeps b t (cond {A = TaskDone} over (TaskCalls.finished b) (record { base = make_wait b u TaskCalls.delay_object Fifo time; outcome = outcomes.Blocked })).base
 delayed_if b t u time true is = λ now same. is
 delayed_if b t u time false is = wait_keeps b t u TaskCalls.delay_object Fifo time is
 
@@ -130,7 +134,8 @@ plain_place b who t (call.DlyTsk time) is ready keeps =
     checked_cases (Kept b t) (TaskCalls.waiting_checks b who (pos 0) time) b _ (λ code now same. is) (λ none. delayed_if b t (TaskCalls.caller who) time (int_eq time (pos 0)) is)
 
 -- a task that is ready after a call, with the priority that it had, is in its place still
-pub task_call_place : (b : Base) (m : Mutexes) (who : Who) (t : ℕ) (it : TaskCall) → KeepsPlace b t → is_ready b t ≡ true → TakesNoPlace b who t it → Keeps b t (task_call_beside b m who it).base
+pub task_call_place : (b : Base) (m : Mutexes) (who : Who) (t : ℕ) (it : TaskCall) → KeepsPlace b t → is_ready b t ≡ true → TakesNoPlace b who t it →
+    Keeps b t (task_call_beside b m who it).base
 unfolding task_call_beside change_priority_beside
 task_call_place b m who t (call.ChgPri task priority) is ready keeps =
     checked_cases (Kept b t) (change_checks_beside b m who task priority) b _ (λ code now same. is)
@@ -144,7 +149,8 @@ state_if P true a b first second = first
 state_if P false a b first second = second
 
 -- another task is deleted
-stands_deleted : (row : Option Task) (t : ℕ) (Q : Mutexes → Type 0) (p : Parts) (v : ℕ) → may_run row ≡ true → (v ≡ t → ⊥) → Stands row t Q p → Stands row t Q (record p { base = delete p.base v })
+stands_deleted : (row : Option Task) (t : ℕ) (Q : Mutexes → Type 0) (p : Parts) (v : ℕ) → may_run row ≡ true → (v ≡ t → ⊥) → Stands row t Q p →
+    Stands row t Q (record p { base = delete p.base v })
 stands_deleted row t Q p v ready apart has =
     let same : task_at (delete p.base v) t ≡ task_at p.base t = entry_cases (λ c. task_at c t ≡ task_at p.base t) (task_at p.base v) p.base _ refl (λ k at. entry_other p.base.tasks v t None (λ e. apart (sym e))) in
     record {
@@ -155,7 +161,8 @@ stands_deleted row t Q p v ready apart has =
       few = has.few;
     }
 
-begun_stands : (row : Option Task) (t : ℕ) (Q : Mutexes → Type 0) (st : State) (u : ℕ) (it : TaskCall) (value : ℤ) → may_run row ≡ true → (ended_in u it ≡ t → ⊥) → Stands row t Q (parts_of st) → Stands row t Q (parts_of (begun st u it value))
+begun_stands : (row : Option Task) (t : ℕ) (Q : Mutexes → Type 0) (st : State) (u : ℕ) (it : TaskCall) (value : ℤ) → may_run row ≡ true → (ended_in u it ≡ t → ⊥) →
+    Stands row t Q (parts_of st) → Stands row t Q (parts_of (begun st u it value))
 begun_stands row t Q st u (call.CreTsk attributes body priority stack) value ready apart has =
     state_if (λ left. Stands row t Q (parts_of left)) (within 1 255 value) (record st { bodies = slice_set st.bodies (natural value) body }) st has has
 begun_stands row t Q st u (call.StaTsk id code) value ready apart has =
@@ -164,7 +171,8 @@ begun_stands row t Q st u (call.StaTsk id code) value ready apart has =
 begun_stands row t Q st u call.ExdTsk value ready apart has = stands_deleted row t Q (parts_of st) u ready apart has
 begun_stands row t Q st u _ value ready apart has = has
 
-answered_stands : (row : Option Task) (t : ℕ) (Q : Mutexes → Type 0) (st : State) (u : ℕ) (it : TaskCall) (outcome : Outcome) → may_run row ≡ true → (ended_in u it ≡ t → ⊥) → Stands row t Q (parts_of st) →
+answered_stands : (row : Option Task) (t : ℕ) (Q : Mutexes → Type 0) (st : State) (u : ℕ) (it : TaskCall) (outcome : Outcome) → may_run row ≡ true →
+    (ended_in u it ≡ t → ⊥) → Stands row t Q (parts_of st) →
     Stands row t Q (parts_of (answered st u (all_calls.Task it) outcome))
 unfolding answered entered
 answered_stands row t Q st u it (outcomes.Returned result) ready apart has = begun_stands row t Q (with_frame st u (give (frame_of st u) result)) u it result.value ready apart has
@@ -181,7 +189,8 @@ ended_apart t u it outcomes.Blocked one apart is = omega (arith, one, is)
 ended_apart t u it (outcomes.Entered body) one apart is = omega (arith, one, is)
 
 -- a call on tasks that leaves this one's row, takes no place of its and doesn't end it, before what follows it
-pub task_called : (row : Option Task) (t : ℕ) (Q : Mutexes → Type 0) (mode : Mode) (n : ℕ) (st : State) (u : ℕ) (it : TaskCall) → Settles row t Q → TakesNoPlace st.base (who_of u) t it → (ended_in u it ≡ t → ⊥) →
+pub task_called : (row : Option Task) (t : ℕ) (Q : Mutexes → Type 0) (mode : Mode) (n : ℕ) (st : State) (u : ℕ) (it : TaskCall) → Settles row t Q →
+    TakesNoPlace st.base (who_of u) t it → (ended_in u it ≡ t → ⊥) →
     task_at (task_call_beside st.base st.objects.mutexes (who_of u) it).base t ≡ task_at st.base t → Stands row t Q (parts_of st) → Stands row t Q (parts_of (called mode n st u (all_calls.Task it)).state)
 unfolding called family_call
 task_called row t Q mode n st u it settles keeps apart same has =
@@ -198,7 +207,8 @@ task_called row t Q mode n st u it settles keeps apart same has =
      }))
 
 -- and with all that follows it
-pub task_followed : (row : Option Task) (t : ℕ) (Q : Mutexes → Type 0) (script : Script) (mode : Mode) (n : ℕ) (st : State) (u : ℕ) (it : TaskCall) → Settles row t Q → TakesNoPlace st.base (who_of u) t it → (ended_in u it ≡ t → ⊥) →
+pub task_followed : (row : Option Task) (t : ℕ) (Q : Mutexes → Type 0) (script : Script) (mode : Mode) (n : ℕ) (st : State) (u : ℕ) (it : TaskCall) → Settles row t Q →
+    TakesNoPlace st.base (who_of u) t it → (ended_in u it ≡ t → ⊥) →
     task_at (task_call_beside st.base st.objects.mutexes (who_of u) it).base t ≡ task_at st.base t → Stands row t Q (parts_of st) → Stands row t Q (parts_of (followed script mode n (called mode n st u (all_calls.Task it)).state).state)
 task_followed row t Q script mode n st u it settles keeps apart same has =
     stands_followed row t Q script mode n (called mode n st u (all_calls.Task it)).state settles (task_called row t Q mode n st u it settles keeps apart same has)

@@ -38,7 +38,8 @@ set_for_keeps P R is b time what has = is.added (unset b what) time what (unset_
 
 -- ---- cyclic handlers
 
-create_keeps : (P R : Base → Type 0) → IsPassed P R → (b : Base) (c : Clocks) (attributes : Attributes) (body : ℕ) (period phase : ℤ) → P b → R (calls.create_cyclic b c attributes body period phase).base
+create_keeps : (P R : Base → Type 0) → IsPassed P R → (b : Base) (c : Clocks) (attributes : Attributes) (body : ℕ) (period phase : ℤ) → P b →
+    R (calls.create_cyclic b c attributes body period phase).base
 unfolding calls.create_cyclic
 create_keeps P R is b c attributes body period phase has =
     let first : ℕ = b.time + natural phase + 1 in
@@ -62,13 +63,18 @@ time_calls_keep P R is b c (call.SetTim high low) has = checked_keeps R ((int_le
 time_calls_keep P R is b c call.GetTim has = is.ends b has
 time_calls_keep P R is b c call.GetOtm has = is.ends b has
 time_calls_keep P R is b c (call.CreCyc attributes body period phase) has = create_keeps P R is b c attributes body period phase has
-time_calls_keep P R is b c (call.StaCyc id) has = checked_keeps R (object_checks id (has_cyc c (natural id)) []) b c _ (is.ends b has) (is.ends _ (started_keeps P R is b (natural id) (cyclic_at c (natural id)) has))
-time_calls_keep P R is b c (call.StpCyc id) has = checked_keeps R (object_checks id (has_cyc c (natural id)) []) b c _ (is.ends b has) (is.ends _ (unset_keeps P R is b (Cyclic (natural id)) has))
-time_calls_keep P R is b c (call.DelCyc id) has = checked_keeps R (object_checks id (has_cyc c (natural id)) []) b c _ (is.ends b has) (is.ends _ (unset_keeps P R is b (Cyclic (natural id)) has))
+time_calls_keep P R is b c (call.StaCyc id) has =
+    checked_keeps R (object_checks id (has_cyc c (natural id)) []) b c _ (is.ends b has) (is.ends _ (started_keeps P R is b (natural id) (cyclic_at c (natural id)) has))
+time_calls_keep P R is b c (call.StpCyc id) has =
+    checked_keeps R (object_checks id (has_cyc c (natural id)) []) b c _ (is.ends b has) (is.ends _ (unset_keeps P R is b (Cyclic (natural id)) has))
+time_calls_keep P R is b c (call.DelCyc id) has =
+    checked_keeps R (object_checks id (has_cyc c (natural id)) []) b c _ (is.ends b has) (is.ends _ (unset_keeps P R is b (Cyclic (natural id)) has))
 time_calls_keep P R is b c (call.RefCyc id) has = checked_keeps R (object_checks id (has_cyc c (natural id)) []) b c _ (is.ends b has) (is.ends b has)
 time_calls_keep P R is b c (call.CreAlm attributes body) has = checked_keeps R (calls.create_alarm_checks c attributes) b c _ (is.ends b has) (is.ends b has)
 time_calls_keep P R is b c (call.StaAlm id delay) has =
     checked_keeps R (calls.start_alarm_checks c id delay) b c _ (is.ends b has) (is.ends _ (set_for_keeps P R is b (b.time + natural delay + 1) (Alarm (natural id)) has))
-time_calls_keep P R is b c (call.StpAlm id) has = checked_keeps R (object_checks id (has_alm c (natural id)) []) b c _ (is.ends b has) (is.ends _ (unset_keeps P R is b (Alarm (natural id)) has))
-time_calls_keep P R is b c (call.DelAlm id) has = checked_keeps R (object_checks id (has_alm c (natural id)) []) b c _ (is.ends b has) (is.ends _ (unset_keeps P R is b (Alarm (natural id)) has))
+time_calls_keep P R is b c (call.StpAlm id) has =
+    checked_keeps R (object_checks id (has_alm c (natural id)) []) b c _ (is.ends b has) (is.ends _ (unset_keeps P R is b (Alarm (natural id)) has))
+time_calls_keep P R is b c (call.DelAlm id) has =
+    checked_keeps R (object_checks id (has_alm c (natural id)) []) b c _ (is.ends b has) (is.ends _ (unset_keeps P R is b (Alarm (natural id)) has))
 time_calls_keep P R is b c (call.RefAlm id) has = checked_keeps R (object_checks id (has_alm c (natural id)) []) b c _ (is.ends b has) (is.ends b has)

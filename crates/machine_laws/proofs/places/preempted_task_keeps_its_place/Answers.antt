@@ -17,7 +17,8 @@ use Rattle.machine_lemmas.proofs.PlacesTasks.{task_call_place, task_followed}
 use Rattle.machine_laws.proofs.places.preempted_task_keeps_its_place.Goals as goal
 
 -- what is asked of the task
-asked : (p : Parts) (t : ℕ) → 1 ≤ t → length p.objects.devices.links ≤ 9 → KeepsPlace p.base t → is_ready p.base t ≡ true → current p.base t ≡ current_of p.base p.objects.mutexes t → LendsNone t p.objects.mutexes → IsPreempted t p
+asked : (p : Parts) (t : ℕ) → 1 ≤ t → length p.objects.devices.links ≤ 9 → KeepsPlace p.base t → is_ready p.base t ≡ true →
+    current p.base t ≡ current_of p.base p.objects.mutexes t → LendsNone t p.objects.mutexes → IsPreempted t p
 asked p t one few place ready fresh heirs = record { least = one; few = few; place = place; ready = ready; fresh = fresh; heirs = heirs }
 
 pub returns-clause-settled : goal.returns-clause-settled
