@@ -58,16 +58,20 @@ family_stands : (row : Option Task) (t : ℕ) (Q : Mutexes → Type 0) (st : Sta
 unfolding family_call
 family_stands row t Q st u (calls.Task c) ready other has = absurd (other.0 c refl)
 family_stands row t Q st u (calls.SemFlag c) ready other has =
-    stands_if row t Q _ (sem_flag_calls_keep (HasPlace row t) (PlaceIfReady row t) (place_passes row t ready) st.base st.objects.sem_flags (who_of u) c has.place.base) has.place.mutexes has.few
+    stands_if row t Q _
+    (sem_flag_calls_keep (HasPlace row t) (PlaceIfReady row t) (place_passes row t ready) st.base st.objects.sem_flags (who_of u) c has.place.base) has.place.mutexes has.few
 family_stands row t Q st u (calls.Mutex c) ready other has = absurd (other.1 c refl)
 family_stands row t Q st u (calls.Mail c) ready other has =
-    stands_if row t Q _ (mail_calls_keep (HasPlace row t) (PlaceIfReady row t) (place_passes row t ready) (mail_parts (parts_of st)) (who_of u) c has.place.base) has.place.mutexes has.few
+    stands_if row t Q _
+    (mail_calls_keep (HasPlace row t) (PlaceIfReady row t) (place_passes row t ready) (mail_parts (parts_of st)) (who_of u) c has.place.base) has.place.mutexes has.few
 family_stands row t Q st u (calls.Pool c) ready other has =
-    stands_if row t Q _ (pool_calls_keep (HasPlace row t) (PlaceIfReady row t) (place_passes row t ready) (pool_parts (parts_of st)) (who_of u) c has.place.base) has.place.mutexes has.few
+    stands_if row t Q _
+    (pool_calls_keep (HasPlace row t) (PlaceIfReady row t) (place_passes row t ready) (pool_parts (parts_of st)) (who_of u) c has.place.base) has.place.mutexes has.few
 family_stands row t Q st u (calls.Time c) ready other has =
     stands_if row t Q _ (time_calls_keep (HasPlace row t) (PlaceIfReady row t) (place_passes row t ready) st.base st.objects.clocks c has.place.base) has.place.mutexes has.few
 family_stands row t Q st u (calls.Context c) ready other has =
-    stands_if row t Q _ (context_calls_keep (HasPlace row t) (PlaceIfReady row t) (place_passes row t ready) st.base st.objects.contexts (who_of u) c has.place.base) has.place.mutexes has.few
+    stands_if row t Q _
+    (context_calls_keep (HasPlace row t) (PlaceIfReady row t) (place_passes row t ready) st.base st.objects.contexts (who_of u) c has.place.base) has.place.mutexes has.few
 family_stands row t Q st u (calls.Device c) ready other has =
     stands_if row t Q _ (device_calls_keep (HasPlace row t) (PlaceIfReady row t) (place_passes row t ready) (dev_parts (parts_of st)) (who_of u) c has.place.base) has.place.mutexes
     (devices.calls_keep (λ dv. length dv.links ≤ 9) few_moves (dev_parts (parts_of st)) (who_of u) c has.few)

@@ -45,7 +45,8 @@ either_done P false one other first second = second
 
 wait_keeps : (P R : Base → Type 0) → IsPassed P R → (p : DevParts) (t object : ℕ) (timeout : ℤ) (dv : Devices) → P p.base → R (calls.waits_or_ends p t object timeout dv).parts.base
 wait_keeps P R is p t object timeout dv has =
-    either_done R (int_eq timeout (pos 0)) (record { parts = p; outcome = failed er.TmOut }) (calls.waits p t object timeout dv) (is.ends p.base has) (is.waits p.base t object Fifo timeout has)
+    either_done R (int_eq timeout (pos 0)) (record { parts = p; outcome = failed er.TmOut }) (calls.waits p t object timeout dv) (is.ends p.base has)
+    (is.waits p.base t object Fifo timeout has)
 
 -- ---- requests
 
@@ -77,7 +78,9 @@ whole_keeps : (P R : Base → Type 0) → IsPassed P R → (p : DevParts) (who :
     R (calls.request_whole p who write descriptor start address size).parts.base
 unfolding calls.request_whole
 whole_keeps P R is p who write descriptor start address size has =
-    checked_keeps R (calls.request_checks p who descriptor write start address size (negsuc 0) ((not (calls.any_waits p (natural descriptor)) otherwise er.Obj) ∷ [])) p _ (is.ends p.base has)
+    checked_keeps R
+    (calls.request_checks p who descriptor write start address size (negsuc 0) ((not (calls.any_waits p (natural descriptor)) otherwise er.Obj) ∷ [])) p _
+    (is.ends p.base has)
     (stayed_keeps P R is p (caller who) (calls.device_of p.table (natural descriptor)) (calls.transfer_of descriptor write start address size) (calls.start_of start) has)
 
 -- ---- endings
@@ -123,7 +126,8 @@ sent_keeps P R is type [] p has = has
 sent_keeps P R is type (d ∷ ids) p has =
     let id : ℕ = buffer_of p.table d in
     let bytes : List ℕ = suspension.event_bytes type d in
-    sent_keeps P R is type ids (suspension.event_sent type p d) (after_post_keeps P p (post (suspension.mail_parts p) id bytes) has (post_keeps P R is (suspension.mail_parts p) id bytes has))
+    sent_keeps P R is type ids (suspension.event_sent type p d)
+    (after_post_keeps P p (post (suspension.mail_parts p) id bytes) has (post_keeps P R is (suspension.mail_parts p) id bytes has))
 
 -- the events of a suspension
 events_keep : (P R : Base → Type 0) → IsPassed P R → (p : DevParts) → P p.base → P (suspension.events_sent p).base

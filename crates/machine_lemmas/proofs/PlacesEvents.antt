@@ -220,7 +220,8 @@ arrival_cases : (row : Option Task) (t : ℕ) (Q : Mutexes → Type 0) (script :
 arrival_cases row t Q script mode st e event None settles at is has = absurd (cc is)
 arrival_cases row t Q script mode st e event (Some q) settles at is has =
     let same : after_arrival script mode (st.steps + 1) st e q ≡ event = cc is in
-    subst (λ (left : Event). Stands row t Q (parts_of left.state)) same (stands_followed row t Q script mode (st.steps + 1) _ settles (stands_noted row t Q (parts_of st) e q at has))
+    subst (λ (left : Event). Stands row t Q (parts_of left.state)) same
+    (stands_followed row t Q script mode (st.steps + 1) _ settles (stands_noted row t Q (parts_of st) e q at has))
 
 -- an ending that arrives, with all that follows it
 pub stands_arrived : (row : Option Task) (t : ℕ) (Q : Mutexes → Type 0) (script : Script) (mode : Mode) (st : State) (e : Ending) (event : Event) → Settles row t Q →

@@ -38,7 +38,9 @@ either_done P false one other first second = second
 wait_keeps : (P R : Base → Type 0) → IsPassed P R → (p : MailParts) (t object : ℕ) (order : Order) (timeout : ℤ) (asked : Mails) → P p.base →
     R (waits_or_ends p t object order timeout asked).base
 wait_keeps P R is p t object order timeout asked has =
-    either_done R (int_eq timeout (pos 0)) (mail_done p (failed er.TmOut)) (mail_done (record p { base = make_wait p.base t object order timeout; table = asked }) outcomes.Blocked) (is.ends p.base has) (is.waits p.base t object order timeout has)
+    either_done R (int_eq timeout (pos 0)) (mail_done p (failed er.TmOut))
+    (mail_done (record p { base = make_wait p.base t object order timeout; table = asked }) outcomes.Blocked) (is.ends p.base has)
+    (is.waits p.base t object order timeout has)
 
 -- ---- mailboxes
 
@@ -94,7 +96,8 @@ send_keeps : (P R : Base → Type 0) → IsPassed P R → (p : MailParts) (t id 
     R (calls.sent_to_buffer p t id bytes timeout slot).base
 send_keeps P R is p t id bytes timeout None has = is.ends p.base has
 send_keeps P R is p t id bytes timeout (Some k) has =
-    sent_or_waits_keeps P R is p t id k timeout bytes _ has (at_once_keeps P R is p id k (would_be_first k.order p.base t (senders p.base k id)) (first_of (receivers p.base id)) k.messages bytes has)
+    sent_or_waits_keeps P R is p t id k timeout bytes _ has
+    (at_once_keeps P R is p id k (would_be_first k.order p.base t (senders p.base k id)) (first_of (receivers p.base id)) k.messages bytes has)
 
 by_caller_keeps : (P R : Base → Type 0) → IsPassed P R →
     (p : MailParts) (t id : ℕ) (k : MessageBuffer) (address : ℕ) (timeout : ℤ) (receiver sender : Option ℕ) (messages : List (List ℕ)) → P p.base →
@@ -130,7 +133,8 @@ pub mail_calls_keep : (P R : Base → Type 0) → IsPassed P R → (p : MailPart
 unfolding mail_call calls.create_box calls.delete_box calls.send_box calls.receive_box calls.refer_box calls.create_buffer calls.delete_buffer calls.send_buffer calls.receive_buffer calls.refer_buffer
 mail_calls_keep P R is p who (call.CreMbx attributes) has = checked_keeps R (calls.create_box_checks p.table attributes) p _ (is.ends p.base has) (is.ends p.base has)
 mail_calls_keep P R is p who (call.DelMbx id) has =
-    checked_keeps R (object_checks id (has_mbx p.table (natural id)) []) p _ (is.ends p.base has) (is.ends _ (box_emptied_keeps P R is p.base (natural id) (box_at p.table (natural id)) has))
+    checked_keeps R (object_checks id (has_mbx p.table (natural id)) []) p _ (is.ends p.base has)
+    (is.ends _ (box_emptied_keeps P R is p.base (natural id) (box_at p.table (natural id)) has))
 mail_calls_keep P R is p who (call.SndMbx id priority value) has =
     checked_keeps R (calls.send_box_checks p id priority value) p _ (is.ends p.base has) (put_keeps P R is p (natural id) _ (box_at p.table (natural id)) has)
 mail_calls_keep P R is p who (call.RcvMbx id timeout) has =
@@ -146,4 +150,5 @@ mail_calls_keep P R is p who (call.RcvMbf id address timeout) has =
     (receive_keeps P R is p (caller who) (natural id) (natural address) timeout (buffer_at p.table (natural id)) has)
 mail_calls_keep P R is p who (call.RefMbf id) has = checked_keeps R (object_checks id (has_mbf p.table (natural id)) []) p _ (is.ends p.base has) (is.ends p.base has)
 mail_calls_keep P R is p who (call.DelMbf id) has =
-    checked_keeps R (object_checks id (has_mbf p.table (natural id)) []) p _ (is.ends p.base has) (is.ends _ (buffer_emptied_keeps P R is p.base (natural id) (buffer_at p.table (natural id)) has))
+    checked_keeps R (object_checks id (has_mbf p.table (natural id)) []) p _ (is.ends p.base has)
+    (is.ends _ (buffer_emptied_keeps P R is p.base (natural id) (buffer_at p.table (natural id)) has))

@@ -51,7 +51,9 @@ ended_keeps P R is b id (Some k) has = end_waits_keeps P R is k.order (mutex_obj
 
 wait_keeps : (P R : Base → Type 0) → IsPassed P R → (b : Base) (m : Mutexes) (t id : ℕ) (order : Order) (timeout : ℤ) → P b → R (waits_or_ends b m t id order timeout).base
 wait_keeps P R is b m t id order timeout has =
-    either_done R (int_eq timeout (pos 0)) (record { base = b; table = m; outcome = failed er.TmOut }) (record { base = make_wait b t (mutex_object id) order timeout; table = m; outcome = outcomes.Blocked }) (is.ends b has) (is.waits b t (mutex_object id) order timeout has)
+    either_done R (int_eq timeout (pos 0)) (record { base = b; table = m; outcome = failed er.TmOut })
+    (record { base = make_wait b t (mutex_object id) order timeout; table = m; outcome = outcomes.Blocked }) (is.ends b has)
+    (is.waits b t (mutex_object id) order timeout has)
 
 waited_keeps : (P R : Base → Type 0) → IsPassed P R → (b : Base) (m : Mutexes) (t id : ℕ) (timeout : ℤ) (slot : Option Mutex) → P b →
     R (waited_for_mutex b m t id timeout slot).base
@@ -97,7 +99,8 @@ without_checked t checks b m effect none works = mutex_cases (Without t) checks 
 pub call_without : (t : ℕ) (b : Base) (m : Mutexes) (who : Who) (c : MutexCall) → 1 ≤ t → (caller who ≡ t → ⊥) → OwnsNone t m → OwnsNone t (mutex_call b m who c).table
 unfolding mutex_call calls.create_mutex calls.lock_mutex calls.unlock_mutex calls.refer_mutex calls.delete_mutex
 call_without t b m who (call.CreMtx attributes ceiling) one apart none =
-    without_checked t (calls.create_checks m attributes ceiling) b m _ none (written_none m t (calls.free_mutex m) (Some (calls.new_mutex attributes ceiling)) m.locks none one (no_owner t one))
+    without_checked t (calls.create_checks m attributes ceiling) b m _ none
+    (written_none m t (calls.free_mutex m) (Some (calls.new_mutex attributes ceiling)) m.locks none one (no_owner t one))
 call_without t b m who (call.LocMtx id timeout) one apart none =
     without_checked t (calls.lock_checks b m who id timeout) b m _ none (waited_without t b m (caller who) (natural id) timeout (mutex_at m (natural id)) one apart none)
 call_without t b m who (call.UnlMtx id) one apart none =
@@ -129,4 +132,5 @@ pub mutex_followed : (row : Option Task) (t : ℕ) (script : Script) (mode : Mod
     (caller (who_of u) ≡ t → ⊥) → Stands row t (OwnsNone t) (parts_of st) →
     is_ready (called mode n st u (all_calls.Mutex c)).state.base t ≡ true → Stands row t (OwnsNone t) (parts_of (followed script mode n (called mode n st u (all_calls.Mutex c)).state).state)
 mutex_followed row t script mode n st u c settles apart has now =
-    stands_followed row t (OwnsNone t) script mode n (called mode n st u (all_calls.Mutex c)).state settles (mutex_called row t mode n st u c settles.least settles.ready apart has now)
+    stands_followed row t (OwnsNone t) script mode n (called mode n st u (all_calls.Mutex c)).state settles
+    (mutex_called row t mode n st u c settles.least settles.ready apart has now)

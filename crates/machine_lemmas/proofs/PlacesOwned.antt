@@ -67,7 +67,8 @@ current_owning_none b m t none one =
     let alone : own b m t ≡ base_of b t = ap (fold (capped m) (base_of b t)) (held_none m t m.locks none) in
     let lent : (u : ℕ) → lends_to b m t u ≡ true → own b m u ≡ own b m t = λ u lends. ap (own b m)
         (chain_alone (next_in_chain b m) t u 255 (λ v. no_heir (mutex_at m (awaited b v)) t one (none (awaited b v))) (second (is_alive (task_at b u)) (chain_has (next_in_chain b m) t 255 u) lends)) in
-    either_way (fold (lowered b m t) (own b m t) (taken_from 1 (drop 1 b.tasks))) (base_of b t) (is_alive (task_at b t)) (least_same b m t (own b m t) (taken_from 1 (drop 1 b.tasks)) lent ∙ alone)
+    either_way (fold (lowered b m t) (own b m t) (taken_from 1 (drop 1 b.tasks))) (base_of b t) (is_alive (task_at b t))
+    (least_same b m t (own b m t) (taken_from 1 (drop 1 b.tasks)) lent ∙ alone)
 
 -- ---- what serving does to it
 
@@ -98,7 +99,8 @@ freed_owner (Some k) t one is = omega (arith, one, is)
 pub none_passes : (t : ℕ) → 1 ≤ t → Passes t (OwnsNone t)
 none_passes t one = record {
   locks = λ m id k u at free apart none. written_none m t id (Some (record k { owner = u })) (to_back id m.locks) none one apart;
-  frees = λ m id u is apart none. written_none m t id (option_map {T = Mutex} (λ k. record k { owner = 0 }) (mutex_at m id)) (without id m.locks) none one (freed_owner (mutex_at m id) t one);
+  frees = λ m id u is apart none. written_none m t id (option_map {T = Mutex} (λ k. record k { owner = 0 }) (mutex_at m id))
+  (without id m.locks) none one (freed_owner (mutex_at m id) t one);
 }
 
 -- ---- the serving of a mutex
@@ -109,7 +111,8 @@ of_waiter : (Q : Mutexes → Type 0) (t : ℕ) (b : Base) (m : Mutexes) (id : �
 of_waiter Q t b m id k parts [] passes ready at free is served has = absurd (cc served)
 of_waiter Q t b m id k parts (u ∷ rest) passes ready at free is served has =
     let e : record { base = release b u (plain (pos 0)); table = locked m id k u } ≡ parts = cc served in
-    subst (λ (left : MutexParts). Q left.table) e (passes.locks m id k u at free (ready_apart b t u (mutex_object id) ready (first_waits k.order b (mutex_object id) u rest is)) has)
+    subst (λ (left : MutexParts). Q left.table) e
+    (passes.locks m id k u at free (ready_apart b t u (mutex_object id) ready (first_waits k.order b (mutex_object id) u rest is)) has)
 
 by_owner : (Q : Mutexes → Type 0) (parts : MutexParts) (k : Mutex) (free : Bool) (served : Option MutexParts) → (k.owner == 0) ≡ free →
     cond free served None ≡ Some parts → (k.owner ≡ 0 → served ≡ Some parts → Q parts.table) → Q parts.table
@@ -120,7 +123,8 @@ of_slot : (Q : Mutexes → Type 0) (t : ℕ) (b : Base) (m : Mutexes) (id : ℕ)
     mutex_at m id ≡ slot → serve_mutex_at b m id slot ≡ Some parts → Q m → Q parts.table
 of_slot Q t b m id parts None passes ready at served has = absurd (cc served)
 of_slot Q t b m id parts (Some k) passes ready at served has =
-    by_owner Q parts k (k.owner == 0) (serve_mutex_of b m id k (mutex_waiters b k id)) refl served (λ free is. of_waiter Q t b m id k parts (mutex_waiters b k id) passes ready at free refl is has)
+    by_owner Q parts k (k.owner == 0) (serve_mutex_of b m id k (mutex_waiters b k id)) refl served
+    (λ free is. of_waiter Q t b m id k parts (mutex_waiters b k id) passes ready at free refl is has)
 
 of_mutex : (Q : Mutexes → Type 0) (t : ℕ) (b : Base) (m : Mutexes) (id : ℕ) (parts : MutexParts) → Passes t Q → is_ready b t ≡ true → serve_mutex b m id ≡ Some parts →
     Q m → Q parts.table

@@ -35,7 +35,9 @@ either_done P false one other first second = second
 wait_keeps : (P R : Base → Type 0) → IsPassed P R → (p : PoolParts) (t object : ℕ) (order : Order) (timeout : ℤ) (asked : Pools) → P p.base →
     R (waits_or_ends p t object order timeout asked).base
 wait_keeps P R is p t object order timeout asked has =
-    either_done R (int_eq timeout (pos 0)) (pool_done p (failed er.TmOut)) (pool_done (record { base = make_wait p.base t object order timeout; table = asked }) outcomes.Blocked) (is.ends p.base has) (is.waits p.base t object order timeout has)
+    either_done R (int_eq timeout (pos 0)) (pool_done p (failed er.TmOut))
+    (pool_done (record { base = make_wait p.base t object order timeout; table = asked }) outcomes.Blocked) (is.ends p.base has)
+    (is.waits p.base t object order timeout has)
 
 -- ---- fixed pools
 
@@ -77,7 +79,8 @@ unfolding pool_call calls.create_fixed calls.delete_fixed calls.get_fixed calls.
 pool_calls_keep P R is p who (call.CreMpf attributes count size) has =
     checked_keeps R (calls.create_fixed_checks p attributes count size) p _ (is.ends p.base has) (is.ends _ (is.taken p.base (natural count * natural size) has))
 pool_calls_keep P R is p who (call.DelMpf id) has =
-    checked_keeps R (object_checks id (has_mpf p.table (natural id)) []) p _ (is.ends p.base has) (is.ends _ (fixed_ended_keeps P R is p.base (natural id) (fixed_at p.table (natural id)) has))
+    checked_keeps R (object_checks id (has_mpf p.table (natural id)) []) p _ (is.ends p.base has)
+    (is.ends _ (fixed_ended_keeps P R is p.base (natural id) (fixed_at p.table (natural id)) has))
 pool_calls_keep P R is p who (call.GetMpf id timeout) has =
     checked_keeps R (calls.get_fixed_checks p who id timeout) p _ (is.ends p.base has) (fixed_keeps P R is p (caller who) (natural id) timeout (fixed_at p.table (natural id)) has)
 pool_calls_keep P R is p who (call.RelMpf id block) has = checked_keeps R (calls.release_fixed_checks p id block) p _ (is.ends p.base has) (is.ends p.base has)
@@ -85,7 +88,8 @@ pool_calls_keep P R is p who (call.RefMpf id) has = checked_keeps R (object_chec
 pool_calls_keep P R is p who (call.CreMpl attributes size) has =
     checked_keeps R (calls.create_variable_checks p attributes size) p _ (is.ends p.base has) (is.ends _ (is.taken p.base (block_size (natural size)) has))
 pool_calls_keep P R is p who (call.DelMpl id) has =
-    checked_keeps R (object_checks id (has_mpl p.table (natural id)) []) p _ (is.ends p.base has) (is.ends _ (variable_ended_keeps P R is p.base (natural id) (variable_at p.table (natural id)) has))
+    checked_keeps R (object_checks id (has_mpl p.table (natural id)) []) p _ (is.ends p.base has)
+    (is.ends _ (variable_ended_keeps P R is p.base (natural id) (variable_at p.table (natural id)) has))
 pool_calls_keep P R is p who (call.GetMpl id size timeout) has =
     checked_keeps R (calls.get_variable_checks p who id size timeout) p _ (is.ends p.base has)
     (variable_keeps P R is p (caller who) (natural id) (block_size (natural size)) timeout (variable_at p.table (natural id)) has)

@@ -42,7 +42,9 @@ flag_ended_keeps P R is b id (Some k) has = end_waits_keeps P R is k.order (flag
 wait_keeps : (P R : Base → Type 0) → IsPassed P R → (b : Base) (s : SemFlags) (t object : ℕ) (order : Order) (timeout : ℤ) (asked : SemFlags) → P b →
     R (waits_or_ends b s t object order timeout asked).base
 wait_keeps P R is b s t object order timeout asked has =
-    either_done R (int_eq timeout (pos 0)) (record { base = b; table = s; outcome = failed er.TmOut }) (record { base = make_wait b t object order timeout; table = asked; outcome = outcomes.Blocked }) (is.ends b has) (is.waits b t object order timeout has)
+    either_done R (int_eq timeout (pos 0)) (record { base = b; table = s; outcome = failed er.TmOut })
+    (record { base = make_wait b t object order timeout; table = asked; outcome = outcomes.Blocked }) (is.ends b has)
+    (is.waits b t object order timeout has)
 
 sem_keeps : (P R : Base → Type 0) → IsPassed P R → (b : Base) (s : SemFlags) (t id n : ℕ) (timeout : ℤ) (slot : Option Semaphore) → P b →
     R (waited_for_sem b s t id n timeout slot).base
@@ -62,13 +64,15 @@ unfolding sem_flag_call calls.create_sem calls.create_flag calls.delete_sem call
 sem_flag_calls_keep P R is b s who (call.CreSem attributes count most) has = checked_keeps R (calls.create_sem_checks s attributes count most) b s _ (is.ends b has) (is.ends b has)
 sem_flag_calls_keep P R is b s who (call.SigSem id count) has = checked_keeps R (calls.signal_checks s id count) b s _ (is.ends b has) (is.ends b has)
 sem_flag_calls_keep P R is b s who (call.WaiSem id count timeout) has =
-    checked_keeps R (calls.wait_sem_checks b s who id count timeout) b s _ (is.ends b has) (sem_keeps P R is b s (caller who) (natural id) (natural count) timeout (sem_at s (natural id)) has)
+    checked_keeps R (calls.wait_sem_checks b s who id count timeout) b s _ (is.ends b has)
+    (sem_keeps P R is b s (caller who) (natural id) (natural count) timeout (sem_at s (natural id)) has)
 sem_flag_calls_keep P R is b s who (call.RefSem id) has = checked_keeps R (object_checks id (has_sem s id) []) b s _ (is.ends b has) (is.ends b has)
 sem_flag_calls_keep P R is b s who (call.CreFlg attributes pattern) has = checked_keeps R (calls.create_flag_checks s attributes) b s _ (is.ends b has) (is.ends b has)
 sem_flag_calls_keep P R is b s who (call.SetFlg id pattern) has = checked_keeps R (object_checks id (has_flag s id) []) b s _ (is.ends b has) (is.ends b has)
 sem_flag_calls_keep P R is b s who (call.ClrFlg id pattern) has = checked_keeps R (object_checks id (has_flag s id) []) b s _ (is.ends b has) (is.ends b has)
 sem_flag_calls_keep P R is b s who (call.WaiFlg id bits mode timeout) has =
-    checked_keeps R (calls.wait_flag_checks b s who id bits mode timeout) b s _ (is.ends b has) (flag_keeps P R is b s (caller who) (natural id) _ timeout (flag_at s (natural id)) has)
+    checked_keeps R (calls.wait_flag_checks b s who id bits mode timeout) b s _ (is.ends b has)
+    (flag_keeps P R is b s (caller who) (natural id) _ timeout (flag_at s (natural id)) has)
 sem_flag_calls_keep P R is b s who (call.RefFlg id) has = checked_keeps R (object_checks id (has_flag s id) []) b s _ (is.ends b has) (is.ends b has)
 sem_flag_calls_keep P R is b s who (call.DelSem id) has =
     checked_keeps R (object_checks id (has_sem s id) []) b s _ (is.ends b has) (is.ends _ (sem_ended_keeps P R is b (natural id) (sem_at s (natural id)) has))

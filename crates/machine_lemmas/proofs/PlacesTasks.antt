@@ -74,7 +74,8 @@ enabled_if b c t true keeps = flags_keep b c t _ keeps
 enabled_if b c t false keeps = keeps
 
 slept_if : (b : Base) (t u : ℕ) (timeout : ℤ) (over : Bool) → KeepsPlace b t →
-    Keeps b t (cond {A = TaskDone} over (record { base = b; outcome = failed er.TmOut }) (record { base = make_wait b u TaskCalls.sleep_object Fifo timeout; outcome = outcomes.Blocked })).base
+    Keeps b t
+    (cond {A = TaskDone} over (record { base = b; outcome = failed er.TmOut }) (record { base = make_wait b u TaskCalls.sleep_object Fifo timeout; outcome = outcomes.Blocked })).base
 slept_if b t u timeout true is = λ now same. is
 slept_if b t u timeout false is = wait_keeps b t u TaskCalls.sleep_object Fifo timeout is
 
@@ -99,11 +100,13 @@ Kept b t done = Keeps b t done.base
 plain_place : (b : Base) (who : Who) (t : ℕ) (it : TaskCall) → KeepsPlace b t → is_ready b t ≡ true → TakesNoPlace b who t it → Keeps b t (task_call b who it).base
 unfolding task_call create_task delete_task start_task exit_task terminate_task change_priority rotate_ready get_task refer_task sleep delay wake_up cancel_wakeups release_wait suspend_task resume_task
 plain_place b who t (call.CreTsk attributes body priority stack) is ready keeps =
-    checked_cases (Kept b t) (TaskCalls.create_checks b attributes priority stack) b _ (λ code now same. is) (λ none. create_keeps b t (free_task b) (natural priority) (natural stack) (natural stack) is)
+    checked_cases (Kept b t) (TaskCalls.create_checks b attributes priority stack) b _ (λ code now same. is)
+    (λ none. create_keeps b t (free_task b) (natural priority) (natural stack) (natural stack) is)
 plain_place b who t (call.DelTsk task) is ready keeps =
     checked_cases (Kept b t) (TaskCalls.delete_checks b task) b _ (λ code now same. is) (λ none. delete_keeps b t (natural task) is)
 plain_place b who t (call.StaTsk task code) is ready keeps =
-    checked_cases (Kept b t) (TaskCalls.start_checks b task code) b _ (λ code now same. is) (λ none. ready_keeps b t (natural task) is ready (holds_at 3 (TaskCalls.start_checks b task code) none))
+    checked_cases (Kept b t) (TaskCalls.start_checks b task code) b _ (λ code now same. is)
+    (λ none. ready_keeps b t (natural task) is ready (holds_at 3 (TaskCalls.start_checks b task code) none))
 plain_place b who t call.ExtTsk is ready keeps = flags_keep b _ t _ (dormant_keeps b t (TaskCalls.caller who) is)
 plain_place b who t call.ExdTsk is ready keeps = flags_keep b _ t _ (dormant_keeps b t (TaskCalls.caller who) is)
 plain_place b who t (call.TerTsk task) is ready keeps =
@@ -112,14 +115,17 @@ plain_place b who t (call.ChgPri task priority) is ready keeps =
     checked_cases (Kept b t) (TaskCalls.change_checks b who task priority) b _ (λ code now same. is)
     (λ none. rebased_keep b t (TaskCalls.named who task) (TaskCalls.new_base b (TaskCalls.named who task) priority) is (keeps.changes task priority refl))
 plain_place b who t (call.RotRdq priority) is ready keeps =
-    checked_cases (Kept b t) ((within 0 140 priority otherwise er.Par) ∷ []) b _ (λ code now same. is) (λ none. rotate_keeps b t (rotated_priority b priority) (keeps.rotates priority refl) is)
+    checked_cases (Kept b t) ((within 0 140 priority otherwise er.Par) ∷ []) b _ (λ code now same. is)
+    (λ none. rotate_keeps b t (rotated_priority b priority) (keeps.rotates priority refl) is)
 plain_place b who t call.GetTid is ready keeps = λ now same. is
 plain_place b who t (call.RefTsk task) is ready keeps =
     checked_cases (Kept b t) (TaskCalls.named_checks b who task) b _ (λ code now same. is) (λ none now same. is)
 plain_place b who t (call.SlpTsk timeout) is ready keeps =
-    checked_cases (Kept b t) (TaskCalls.waiting_checks b who (negsuc 0) timeout) b _ (λ code now same. is) (λ none. slept_keeps b t (TaskCalls.caller who) timeout (wakeups_of b (TaskCalls.caller who)) is)
+    checked_cases (Kept b t) (TaskCalls.waiting_checks b who (negsuc 0) timeout) b _ (λ code now same. is)
+    (λ none. slept_keeps b t (TaskCalls.caller who) timeout (wakeups_of b (TaskCalls.caller who)) is)
 plain_place b who t (call.WupTsk task) is ready keeps =
-    checked_cases (Kept b t) (TaskCalls.wake_up_checks b who task) b _ (λ code now same. is) (λ none. woken_if b t (natural task) (waits_for b TaskCalls.sleep_object (natural task)) is ready)
+    checked_cases (Kept b t) (TaskCalls.wake_up_checks b who task) b _ (λ code now same. is)
+    (λ none. woken_if b t (natural task) (waits_for b TaskCalls.sleep_object (natural task)) is ready)
 plain_place b who t (call.CanWup task) is ready keeps =
     checked_cases (Kept b t) (TaskCalls.cancel_checks b who task) b _ (λ code now same. is) (λ none. wakeups_keep b t (TaskCalls.named who task) 0 is)
 plain_place b who t (call.RelWai task) is ready keeps =
