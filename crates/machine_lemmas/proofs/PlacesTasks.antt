@@ -39,7 +39,7 @@ use Rattle.machine_lemmas.proofs.PlacesEvents.{Stands, stands_followed, stands_h
 use Rattle.machine_lemmas.proofs.PlacesOwned.{second}
 use Rattle.machine_lemmas.proofs.PlacesSettled.{Settles}
 
--- the call rotates the tasks of this one's priority, or changes its own
+-- the call neither rotates the tasks of this one's priority nor changes its own
 pub record TakesNoPlace (b : Base) (who : Who) (t : ℕ) (it : TaskCall) : Type 0 where
   pub rotates : (priority : ℤ) → it ≡ call.RotRdq priority → rotated_priority b priority ≡ current b t → ⊥
   pub changes : (task priority : ℤ) → it ≡ call.ChgPri task priority → TaskCalls.named who task ≡ t → ⊥
