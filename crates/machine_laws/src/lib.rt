@@ -5,3 +5,4 @@ pub mod laws;
 pub mod services;
 pub mod waits;
 pub mod ticks;
+pub mod places;

@@ -1,0 +1,41 @@
+-- What passes through changes of flags passes through each call on interrupts, on what delays dispatching, and on subsystems.
+use Rattle.std.proofs.Common.{true, false, List, [], ◌∷◌, Option, Some, None}
+use Rattle.tk_types.specs.declared.answer.Who.{Who}
+use Rattle.tk_types.specs.declared.calls.ContextCall.{ContextCall}
+use Rattle.tk_types.specs.declared.calls.ContextCall.TheVariants as call
+use Rattle.tk_types.specs.declared.error_code.Er.{Er}
+use Rattle.tk_types.specs.declared.error_code.Er.TheVariants as er
+use Rattle.tk_types.specs.declared.task.Flags.{Flags}
+use Rattle.kernel_model.specs.declared.marks.Mark.TheVariants.{NeedsTask}
+use Rattle.kernel_model.specs.Words.Checks.{Check, ◌otherwise◌, first_error, natural, within}
+use Rattle.kernel_model.specs.Tasks.Base.{Base}
+use Rattle.kernel_model.specs.Tasks.Marks.{allows}
+use Rattle.context_model.specs.Contexts.Tables.{Contexts, has_ssy}
+use Rattle.context_model.specs.Contexts.Calls as calls
+use Rattle.context_model.specs.Contexts.Calls.{ContextDone, context_call, context_checked, context_refused, flags_changed}
+use Rattle.machine_lemmas.proofs.PlacesMoves.{IsPassed}
+
+refused_keeps : (P : Base → Type 0) (error : Option Er) (b : Base) (c : Contexts) (effect : ContextDone) → P b → P effect.base → P (context_refused error b c effect).base
+refused_keeps P (Some error) b c effect has works = has
+refused_keeps P None b c effect has works = works
+
+-- a call is refused and leaves the base, or has its effect
+checked_keeps : (P : Base → Type 0) (checks : List Check) (b : Base) (c : Contexts) (effect : ContextDone) → P b → P effect.base → P (context_checked checks b c effect).base
+checked_keeps P checks b c effect has works = refused_keeps P (first_error checks) b c effect has works
+
+flags_keep : (P R : Base → Type 0) → IsPassed P R → (b : Base) (c : Contexts) (who : Who) (flags : Flags) → P b → R (flags_changed b c who flags).base
+flags_keep P R is b c who flags has = checked_keeps R ((allows b.flags who NeedsTask otherwise er.Ctx) ∷ []) b c _ (is.ends b has) (is.ends _ (is.flagged b flags has))
+
+-- each of them
+pub context_calls_keep : (P R : Base → Type 0) → IsPassed P R → (b : Base) (c : Contexts) (who : Who) (row : ContextCall) → P b → R (context_call b c who row).base
+unfolding context_call calls.define_handler calls.disable_dispatch calls.enable_dispatch calls.disable_interrupts calls.enable_interrupts calls.refer_system calls.define_service calls.refer_service calls.enter_service
+context_calls_keep P R is b c who (call.DefInt number body) has = checked_keeps R ((within 1 255 number otherwise er.Par) ∷ []) b c _ (is.ends b has) (is.ends b has)
+context_calls_keep P R is b c who call.DisDsp has = flags_keep P R is b c who (record b.flags { dispatch_off = true }) has
+context_calls_keep P R is b c who call.EnaDsp has = flags_keep P R is b c who (record b.flags { dispatch_off = false }) has
+context_calls_keep P R is b c who call.Di has = flags_keep P R is b c who (record b.flags { di = true }) has
+context_calls_keep P R is b c who call.Ei has = flags_keep P R is b c who (record b.flags { di = false }) has
+context_calls_keep P R is b c who call.RefSys has = is.ends b has
+context_calls_keep P R is b c who (call.DefSsy number body) has = checked_keeps R (calls.define_service_checks c number body) b c _ (is.ends b has) (is.ends b has)
+context_calls_keep P R is b c who (call.RefSsy number) has =
+    checked_keeps R ((within 1 255 number otherwise er.Id) ∷ (has_ssy c (natural number) otherwise er.NoExs) ∷ []) b c _ (is.ends b has) (is.ends b has)
+context_calls_keep P R is b c who (call.Svc number value) has = checked_keeps R (calls.service_checks b c who number value) b c _ (is.ends b has) (is.ends b has)
