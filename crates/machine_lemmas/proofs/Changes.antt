@@ -36,6 +36,18 @@ without_moves P survives = record {
   given = survives.given;
 }
 
+-- any wait may move
+abbrev pub any_moves : ℕ → Type 0
+any_moves dd = Unit {0}
+
+-- what survives any move survives those that may be
+pub of_any : (may : ℕ → Type 0) (P : Base → Type 0) → Survives any_moves P → Survives may P
+of_any may P survives = record {
+  released = survives.released;
+  moved = λ b t d dd least most moves waits has. survives.moved b t d dd least most tt waits has;
+  given = survives.given;
+}
+
 -- a serving that moves no wait is one among those that may
 pub may_move : (may : ℕ → Type 0) (b c : Base) → IsEnding no_moves b c → IsEnding may b c
 may_move may b c is = record { keeps = λ P survives has. is.keeps P (without_moves P survives) has; lighter = is.lighter }

@@ -19,6 +19,7 @@ use Rattle.mutex_laws.proofs.Resettled.{resettled_place, resettled_rows, row_wit
 use Rattle.machine_model.specs.States.Objects.{Parts, serve_object}
 use Rattle.machine_model.specs.Events.Settle.{handed, refreshed, served_within, settle}
 use Rattle.machine_lemmas.proofs.Changes.{Survives}
+use Rattle.machine_lemmas.proofs.KnownDevices.{IsWished}
 use Rattle.machine_lemmas.proofs.PlacesOwned.{Passes, ready_apart, served_passes}
 use Rattle.machine_lemmas.proofs.Servings.{FewDevices, serving}
 use Rattle.machine_lemmas.proofs.Settling.{few_served, next_served}
@@ -64,12 +65,12 @@ at_row : (row : Option Task) (t : ℕ) (b c : Base) → HasPlace row t b → (Ha
 at_row row t b c has step = let then = step (record { is = refl; place = has.place }) in record { is = then.is ∙ has.is; place = then.place }
 
 -- it survives every serving
-pub place_survives : (row : Option Task) (t : ℕ) → may_run row ≡ true → Survives (HasPlace row t)
-place_survives row t ready = record {
+pub place_survives : (row : Option Task) (t : ℕ) → may_run row ≡ true → (may : ℕ → Type 0) → Survives may (HasPlace row t)
+place_survives row t ready may = record {
   released = λ b v object answer above waits has.
       let now : is_ready b t ≡ true = ap may_run has.is ∙ ready in
       record { is = release_ready b t v answer now ∙ has.is; place = release_keeps_place b t v answer has.place now };
-  moved = λ b v d dd least most waits has.
+  moved = λ b v d dd least most moves waits has.
       at_row row t b _ has (λ here. moved_place b t v _ Fifo here (ready_apart b t v _ (ap may_run has.is ∙ ready) waits));
   given = λ b n has. place_seen row t b (record b { bytes = b.bytes - n }) refl refl has;
 }
@@ -109,7 +110,7 @@ refreshed_place row t Q p settles has =
 served_place : (row : Option Task) (t : ℕ) (Q : Mutexes → Type 0) (p q : Parts) → Settles row t Q → FewDevices p → serve_object p ≡ Some q → IsInPlace row t Q p →
     IsInPlace row t Q q
 served_place row t Q p q settles few is has = record {
-  base = (serving p q few is).ends.keeps (HasPlace row t) (place_survives row t settles.ready) has.base;
+  base = (serving p q few is).ends.keeps (HasPlace row t) (place_survives row t settles.ready (IsWished p.objects.devices)) has.base;
   mutexes = served_passes Q t p q settles.passes (ap may_run has.base.is ∙ settles.ready) is has.mutexes;
 }
 

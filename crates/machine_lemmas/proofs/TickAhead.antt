@@ -148,8 +148,8 @@ turn_settles now t due left =
           (at.survives.released b u object answer above waits has.0.0, time_order_kept.released b u answer has.0.1),
           turn_release_if t due left u b answer (u == t) refl (λ apart. has.1),
         );
-        moved = λ b u d dd least most waits has. (
-          (at.survives.moved b u d dd least most waits has.0.0, time_order_kept.moved b u _ _ has.0.1),
+        moved = λ b u d dd least most moves waits has. (
+          (at.survives.moved b u d dd least most moves waits has.0.0, time_order_kept.moved b u _ _ has.0.1),
           turn_move_if t due left u (acceptance_object d) (ending_object dd) _ b (u == t) refl waits has.1,
         );
         given = λ b n has. (has.0, nearer t due left b (give_bytes b n) (record { limit = refl; phase = refl }) (λ limit. omega arith) has.1);

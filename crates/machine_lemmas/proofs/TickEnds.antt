@@ -158,8 +158,8 @@ stage_settles now S t set phase serves = record {
       (at_settles now).survives.released b u object answer above waits has.0,
       release_stage S t u set phase b answer (served_reason S t u object set phase b serves above waits has.1) (λ apart. has.1),
     );
-    moved = λ b u d dd least most waits has. (
-      (at_settles now).survives.moved b u d dd least most waits has.0,
+    moved = λ b u d dd least most moves waits has. (
+      (at_settles now).survives.moved b u d dd least most moves waits has.0,
       move_stage_if S t u d dd _ set phase b (u == t) refl least most waits has.1,
     );
     given = λ b n has. ((at_settles now).survives.given b n has.0, left_stage S t set phase b (give_bytes b n) (record { limit = refl; phase = refl }) has.1);

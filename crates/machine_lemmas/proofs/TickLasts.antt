@@ -31,7 +31,7 @@ AnyBase b = Unit {0}
 
 any_settles : IsSettleProof AnyBase
 any_settles = record {
-  survives = record { released = λ b t object answer above waits has. tt; moved = λ b t d dd least most waits has. tt; given = λ b n has. tt };
+  survives = record { released = λ b t object answer above waits has. tt; moved = λ b t d dd least most moves waits has. tt; given = λ b n has. tt };
   refreshed = λ b t priority has. tt;
 }
 

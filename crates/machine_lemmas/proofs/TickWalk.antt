@@ -18,7 +18,8 @@ use Rattle.machine_model.specs.States.Objects.{Parts}
 use Rattle.machine_model.specs.States.State.{State, parts_of}
 use Rattle.machine_model.specs.Events.Settle.{handed, settle}
 use Rattle.machine_model.specs.Events.Ticks.{due_done, fallen, limit_answer, tick_state}
-use Rattle.machine_lemmas.proofs.Changes.{Survives}
+use Rattle.machine_lemmas.proofs.Changes.{Survives, any_moves, of_any}
+use Rattle.machine_lemmas.proofs.KnownDevices.{IsWished}
 use Rattle.machine_lemmas.proofs.Servings.{FewDevices, serving}
 use Rattle.machine_lemmas.proofs.Settling.{few_handed, few_served, settle_keeps}
 use Rattle.machine_lemmas.proofs.TickClocks.{serving_clocks}
@@ -27,7 +28,7 @@ use Rattle.machine_lemmas.proofs.TickClocks.{serving_clocks}
 
 -- what something of the base has to survive to survive settling
 pub record IsSettleProof (P : Base → Type 0) : Type 0 where
-  pub survives : Survives P
+  pub survives : Survives any_moves P
   pub refreshed : (b : Base) (t priority : ℕ) → P b → P (set_current b t priority)
 
 -- it holds of the base, and something of the clocks, and devices are few
@@ -44,7 +45,7 @@ settled_has : (P : Base → Type 0) (Q : Clocks → Type 0) → IsSettleProof P 
 settled_has P Q is mode p has = settle_keeps (TickHas P Q)
     (λ q t priority of. record { base = is.refreshed q.base t priority of.base; few = of.few; clocks = of.clocks })
     (λ q r few found of. record {
-      base = (serving q r few found).ends.keeps P is.survives of.base;
+      base = (serving q r few found).ends.keeps P (of_any (IsWished q.objects.devices) P is.survives) of.base;
       few = few_served q r few found;
       clocks = subst Q (sym (serving_clocks q r found)) of.clocks;
     })
@@ -118,7 +119,7 @@ pub settling_at : (now : ℕ) (T : List DueEvent → Type 0) → IsOfFewer T →
 settling_at now T fewer = record {
   survives = record {
     released = λ b t object answer above waits has. release_at now T fewer b t answer has;
-    moved = λ b t d dd least most waits has. move_at now T fewer b t _ _ has;
+    moved = λ b t d dd least most moves waits has. move_at now T fewer b t _ _ has;
     given = λ b n has. has;
   };
   refreshed = λ b t priority has. entry_cases (HasAt now T) (task_at b t) b _ has (λ k at. has);
