@@ -2,7 +2,7 @@
 #![tactic(auto)]
 
 pub mod laws;
-pub mod services;
-pub mod waits;
-pub mod ticks;
 pub mod places;
+pub mod services;
+pub mod ticks;
+pub mod waits;

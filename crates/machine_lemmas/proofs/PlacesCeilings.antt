@@ -47,7 +47,7 @@ pub current_lent_none : (b : Base) (m : Mutexes) (t : ℕ) → may_run (task_at 
 unfolding current_of
 current_lent_none b m t ready none =
     let lent : (u : ℕ) → lends_to b m t u ≡ true → own b m u ≡ own b m t = λ u lends. ap (own b m)
-        (chain_alone (next_in_chain b m) t u 255 (λ v. none (awaited b v)) (second (is_alive (task_at b u)) (chain_has (next_in_chain b m) t 255 u) lends)) in
+    (chain_alone (next_in_chain b m) t u 255 (λ v. none (awaited b v)) (second (is_alive (task_at b u)) (chain_has (next_in_chain b m) t 255 u) lends)) in
     alive_if (fold (lowered b m t) (own b m t) (taken_from 1 (drop 1 b.tasks))) (base_of b t) (is_alive (task_at b t)) (ready_lives (task_at b t) ready)
     ∙ least_same b m t (own b m t) (taken_from 1 (drop 1 b.tasks)) lent
 
@@ -83,9 +83,9 @@ locked_alone t base n m id k u one at free apart has =
     alone_then t base n m (locked m id k u)
     (heirs_written t m id (Some (record k { owner = u })) (to_back id m.locks) one (heir_if k.inherits u t one apart) has.heirs)
     (filter_gone (λ i. owner_of m i == t) (λ i. owner_of (locked m id k u) i == t) id m.locks
-     (λ i differs. ap (λ o. owner_in o == t) (entry_other m.table id i (Some (record k { owner = u })) differs))
-     (ap (λ o. owner_in o == t) here ∙ differs_test u t apart)
-     ∙ filter_absent (λ i. owner_of m i == t) id m.locks (differs_test (owner_of m id) t (λ is. omega (arith, one, was_free, is))))
+    (λ i differs. ap (λ o. owner_in o == t) (entry_other m.table id i (Some (record k { owner = u })) differs))
+    (ap (λ o. owner_in o == t) here ∙ differs_test u t apart)
+    ∙ filter_absent (λ i. owner_of m i == t) id m.locks (differs_test (owner_of m id) t (λ is. omega (arith, one, was_free, is))))
     (entry_each (λ i o. ceiling_in o ≡ ceiling_of m i) m.table id (Some (record k { owner = u })) (ap ceiling_in here ∙ sym (ap ceiling_in at)) (λ j differs. refl))
     has
 

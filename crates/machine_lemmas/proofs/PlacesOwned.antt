@@ -66,7 +66,7 @@ unfolding current_of
 current_owning_none b m t none one =
     let alone : own b m t ≡ base_of b t = ap (fold (capped m) (base_of b t)) (held_none m t m.locks none) in
     let lent : (u : ℕ) → lends_to b m t u ≡ true → own b m u ≡ own b m t = λ u lends. ap (own b m)
-        (chain_alone (next_in_chain b m) t u 255 (λ v. no_heir (mutex_at m (awaited b v)) t one (none (awaited b v))) (second (is_alive (task_at b u)) (chain_has (next_in_chain b m) t 255 u) lends)) in
+    (chain_alone (next_in_chain b m) t u 255 (λ v. no_heir (mutex_at m (awaited b v)) t one (none (awaited b v))) (second (is_alive (task_at b u)) (chain_has (next_in_chain b m) t 255 u) lends)) in
     either_way (fold (lowered b m t) (own b m t) (taken_from 1 (drop 1 b.tasks))) (base_of b t) (is_alive (task_at b t))
     (least_same b m t (own b m t) (taken_from 1 (drop 1 b.tasks)) lent ∙ alone)
 
@@ -100,7 +100,7 @@ pub none_passes : (t : ℕ) → 1 ≤ t → Passes t (OwnsNone t)
 none_passes t one = record {
   locks = λ m id k u at free apart none. written_none m t id (Some (record k { owner = u })) (to_back id m.locks) none one apart;
   frees = λ m id u is apart none. written_none m t id (option_map {T = Mutex} (λ k. record k { owner = 0 }) (mutex_at m id))
-  (without id m.locks) none one (freed_owner (mutex_at m id) t one);
+      (without id m.locks) none one (freed_owner (mutex_at m id) t one);
 }
 
 -- ---- the serving of a mutex

@@ -204,13 +204,13 @@ task_called row t Q mode n st u it settles keeps apart same has =
     let was : is_ready st.base t ≡ true = ap may_run has.place.base.is ∙ settles.ready in
     answered_stands row t Q (without_holdings mode done.state (ended_by u (all_calls.Task it) done.outcome)) u it done.outcome settles.ready apart
     (stands_holdings row t Q mode done.state (ended_by u (all_calls.Task it) done.outcome) settles (ended_apart t u it done.outcome settles.least apart)
-     (record {
-       place = record {
-         base = record { is = same ∙ has.place.base.is; place = task_call_place st.base st.objects.mutexes (who_of u) t it has.place.base.place was keeps (ap may_run same ∙ was) (ap current_in same) };
-         mutexes = has.place.mutexes;
-       };
-       few = has.few;
-     }))
+    (record {
+      place = record {
+        base = record { is = same ∙ has.place.base.is; place = task_call_place st.base st.objects.mutexes (who_of u) t it has.place.base.place was keeps (ap may_run same ∙ was) (ap current_in same) };
+        mutexes = has.place.mutexes;
+      };
+      few = has.few;
+    }))
 
 -- and with all that follows it
 pub task_followed : (row : Option Task) (t : ℕ) (Q : Mutexes → Type 0) (script : Script) (mode : Mode) (n : ℕ) (st : State) (u : ℕ) (it : TaskCall) → Settles row t Q →

@@ -167,7 +167,7 @@ again_ahead_in : (t due id : ℕ) (b : Base) (slot : Option CyclicRow) → due �
 again_ahead_in t due id b None come order limit = omega arith
 again_ahead_in t due id b (Some k) come order limit =
     let put = ahead_put t due (record { time = b.time + k.period; key = b.made; what = Cyclic id }) (without_event (Cyclic id) b.events) (omega (arith, come))
-            (time_order_kept.passed b (λ event. not (starts (Cyclic id) event)) order) (limit_without_cyclic t id b.events ∙ limit) in
+    (time_order_kept.passed b (λ event. not (starts (Cyclic id) event)) order) (limit_without_cyclic t id b.events ∙ limit) in
     let out = ahead_out t (starts (Cyclic id)) (λ event is. not_cyclic t id event.what is) b.events in
     omega (arith, put, out)
 

@@ -81,7 +81,7 @@ waits_after mode st t object now due (suc passed) few below early is =
     let time : (after_ticks mode passed st).base.time ≡ now + passed = before.at in
     let less = few_after mode st passed few in
     let comes : ComesAfter ((after_ticks mode passed st).base.time + 1) (limit_of t (after_ticks mode passed st).base.events) =
-        subst (λ (limit : Option ℕ). ComesAfter ((after_ticks mode passed st).base.time + 1) limit) (sym before.limit) (omega (arith, time, early)) in
+    subst (λ (limit : Option ℕ). ComesAfter ((after_ticks mode passed st).base.time + 1) limit) (sym before.limit) (omega (arith, time, early)) in
     record {
       at = let one = tick_time mode (after_ticks mode passed st) less in omega (arith, time, one);
       limit = tick_leaves_set mode (after_ticks mode passed st) t object less before.waits below comes ∙ before.limit;

@@ -67,7 +67,7 @@ pub mails_same : (o : Objects) (m now : Mails) (object : ℕ) → mail_order now
     order_for (record o { mails = now }) object ≡ order_for (record o { mails = m }) object
 mails_same o m now object same =
     ap (λ (x : Option Order). cond (nat_lt object 2) (Some Fifo) (or_order (sem_flag_order o.sem_flags object)
-        (or_order (mutex_order o.mutexes object) (or_order x (or_order (pool_order o.pools object) (device_order object)))))) same
+    (or_order (mutex_order o.mutexes object) (or_order x (or_order (pool_order o.pools object) (device_order object)))))) same
 
 refused_fits : (o : Objects) (error : Option Er) (p : DevParts) (effect : DevDone) → DevRight o p → (error ≡ None → DevRight o effect.parts) →
     DevRight o (calls.refused_with error p effect).parts
@@ -153,7 +153,7 @@ whole_fits o p who write descriptor start address size has =
     (λ none. let known = known_id 32 descriptor (holds_at 0 checks none) in
     let device = device_fits (opened_at p.table (natural descriptor)) (has.known.opened (natural descriptor)) (holds_at 5 checks none) in
     stayed_fits o p (caller who) (calls.device_of p.table (natural descriptor)) (calls.transfer_of descriptor write start address size)
-        (calls.start_of start) device.0 device.1 known.1 has)
+    (calls.start_of start) device.0 device.1 known.1 has)
 
 -- ---- endings
 
@@ -174,7 +174,7 @@ wait_ending_fits o p who descriptor id timeout has =
     checked_fits o checks p _ has
     (λ none. let known = known_id 32 descriptor (holds_at 0 checks none) in
     ending_fits o p (caller who) (natural descriptor) timeout (calls.ending_wish p.table (natural id))
-        (requests.picked p.table (natural descriptor) (calls.ending_wish p.table (natural id))) known.1
+    (requests.picked p.table (natural descriptor) (calls.ending_wish p.table (natural id))) known.1
     (wish_if (natural id == 0) (natural id) (calls.serial_in (row_at p.table (natural id)))) has)
 
 -- ---- closing
@@ -203,7 +203,7 @@ begun_fits o true p t dd most has =
     let d : ℕ = calls.device_of p.table dd in
     waits_fit o p t (close_object dd) (negsuc 0) (asked dv d) (omega arith) (omega (arith, most))
     (beside_known dv (asked dv d) (asked_beside dv d) (open_known p.table dd (calls.now_closing (opened_at p.table dd))
-        (closing_fits (opened_at p.table dd) (has.known.opened dd)) has.known)) has
+    (closing_fits (opened_at p.table dd) (has.known.opened dd)) has.known)) has
 
 close_fits : (o : Objects) (p : DevParts) (who : Who) (descriptor : ℤ) → DevRight o p → DevRight o (calls.close_device p who descriptor).parts
 unfolding calls.close_device
@@ -227,7 +227,7 @@ events_fit o p has =
       orders = right_same (order_for (record o { mails = p.mails })) (order_for (record o { mails = (events_sent p).mails })) (events_sent p).base
           (λ object. mails_same o p.mails (events_sent p).mails object (sending.orders object))
           (sending.changes.keeps (AreRight (order_for (record o { mails = p.mails }))) (right_survives (record o { mails = p.mails }) no_moves
-              (λ dd none. absurd none)) has.orders);
+          (λ dd none. absurd none)) has.orders);
       known = subst AreKnown (sym sending.table) has.known;
     }
 
@@ -242,7 +242,7 @@ effect_fits : (o : Objects) (p : DevParts) (t : ℕ) (mode : SuspendMode) → De
 effect_fits o p t mode has =
     either_fits o mode.td_suspend _ _ (suspended_fits o (any_given p.table) p t has)
     (either_fits o mode.td_dissus _ _ (counted_fits o p (p.table.off + 1) has) (either_fits o mode.td_enasus _ _ (counted_fits o p (p.table.off - 1) has)
-        (counted_fits o p p.table.off has)))
+    (counted_fits o p p.table.off has)))
 
 suspend_fits : (o : Objects) (p : DevParts) (who : Who) (mode : SuspendMode) → DevRight o p → DevRight o (calls.suspend_devices p who mode).parts
 unfolding calls.suspend_devices

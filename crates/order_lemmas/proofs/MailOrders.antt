@@ -125,7 +125,7 @@ sent_or_waits_fits : (o : Objects) (b : Base) (memory : List ℕ) (t id : ℕ) (
 sent_or_waits_fits o b memory t id k timeout bytes (Some left) at least most all sent = sent
 sent_or_waits_fits o b memory t id k timeout bytes None at least most all sent =
     wait_or_ends_fits o b memory t (senders_object id) k.order timeout (slice_set o.mails.sending t bytes) o.mails.into
-        (senders_named o id least most ∙ ap (option_map (λ k. k.order)) at) all
+    (senders_named o id least most ∙ ap (option_map (λ k. k.order)) at) all
 
 send_fits : (o : Objects) (b : Base) (memory : List ℕ) (t id : ℕ) (bytes : List ℕ) (timeout : ℤ) (slot : Option MessageBuffer) → buffer_at o.mails id ≡ slot → 1 ≤ id → id ≤ 64 →
     AreRight (order_for o) b →

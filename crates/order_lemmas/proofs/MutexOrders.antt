@@ -54,7 +54,7 @@ freed_slot o b id (Some k) at all = mutex_same o b id k (record k { owner = 0 })
 freed_fits : (o : Objects) (b : Base) (id : ℕ) → AreRight (order_for o) b → MutexRight o (freed o.mutexes id) b
 freed_fits o b id all =
     right_same (order_for (record o { mutexes = with_mutex o.mutexes id (option_map {T = Mutex} (λ k. record k { owner = 0 }) (mutex_at o.mutexes id)) }))
-        (order_for (record o { mutexes = freed o.mutexes id })) b (λ object. refl)
+    (order_for (record o { mutexes = freed o.mutexes id })) b (λ object. refl)
     (freed_slot o b id (mutex_at o.mutexes id) refl all)
 
 last_fits : (o : Objects) (b : Base) (last : Option ℕ) (m : Mutexes) → option_map (freed o.mutexes) last ≡ Some m → AreRight (order_for o) b → MutexRight o m b
@@ -75,7 +75,7 @@ deleted_fits o b id (Some k) at has all =
 locked_fits : (o : Objects) (b : Base) (id t : ℕ) (k : Mutex) → mutex_at o.mutexes id ≡ Some k → AreRight (order_for o) b → MutexRight o (locked o.mutexes id k t) b
 locked_fits o b id t k at all =
     right_same (order_for (record o { mutexes = with_mutex o.mutexes id (Some (record k { owner = t })) })) (order_for (record o { mutexes = locked o.mutexes id k t })) b
-        (λ object. refl)
+    (λ object. refl)
     (mutex_same o b id k (record k { owner = t }) at refl all)
 
 waited_fits : (o : Objects) (b : Base) (t id : ℕ) (timeout : ℤ) (slot : Option Mutex) → mutex_at o.mutexes id ≡ slot → 1 ≤ id → id ≤ 64 → AreRight (order_for o) b →
@@ -95,11 +95,11 @@ mutex_calls_fit o b who (call.CreMtx attributes ceiling) has all = checked_fits 
 mutex_calls_fit o b who (call.LocMtx id timeout) has all =
     checked_fits o (calls.lock_checks b o.mutexes who id timeout) b _ all
     (λ none. let known = known_id 64 id (holds_at 0 (calls.lock_checks b o.mutexes who id timeout) none) in waited_fits o b (caller who) (natural id) timeout
-        (mutex_at o.mutexes (natural id)) refl known.0 known.1 all)
+    (mutex_at o.mutexes (natural id)) refl known.0 known.1 all)
 mutex_calls_fit o b who (call.UnlMtx id) has all = checked_fits o (calls.unlock_checks b o.mutexes who id) b _ all (λ none. freed_fits o b (natural id) all)
 mutex_calls_fit o b who (call.RefMtx id) has all = checked_fits o (object_checks id (has_mutex o.mutexes (natural id)) []) b _ all (λ none. all)
 mutex_calls_fit o b who (call.DelMtx id) has all =
     checked_fits o (object_checks id (has_mutex o.mutexes (natural id)) []) b _ all
     (λ none. right_same (order_for (record o { mutexes = with_mutex o.mutexes (natural id) None })) (order_for (record o { mutexes = calls.deleted o.mutexes (natural id) }))
-        (mutex_waits_ended b (natural id) (mutex_at o.mutexes (natural id))) (λ object. refl)
+    (mutex_waits_ended b (natural id) (mutex_at o.mutexes (natural id))) (λ object. refl)
     (deleted_fits o b (natural id) (mutex_at o.mutexes (natural id)) refl has all))

@@ -80,7 +80,7 @@ variable_deleted : (o : Objects) (b : Base) (id : ℕ) (slot : Option VariablePo
 variable_deleted o b id None at has all = variable_free o b id None (λ least. at) all
 variable_deleted o b id (Some k) at has all =
     variable_idle o (end_waits k.order (variable_object id) b) id None (ended_idle k.order (variable_object id) b has)
-        (ended_fits (order_for o) k.order (variable_object id) b all)
+    (ended_fits (order_for o) k.order (variable_object id) b all)
 
 -- the size that a task asked for says nothing of the orders
 asked_fits : (o : Objects) (b : Base) (sizes : List ℕ) → AreRight (order_for o) b → PoolRight o (record o.pools { sizes = sizes }) b
@@ -112,20 +112,20 @@ unfolding pool_call calls.create_fixed calls.delete_fixed calls.get_fixed calls.
 pool_calls_fit o b who (call.CreMpf attributes count size) has all =
     checked_fits o (calls.create_fixed_checks (parts o b) attributes count size) b _ all
     (λ none. fixed_made o (take_bytes b (natural count * natural size)) (Some (calls.new_fixed attributes (natural count) (natural size)))
-        (taken_fits (order_for o) b (natural count * natural size) all))
+    (taken_fits (order_for o) b (natural count * natural size) all))
 pool_calls_fit o b who (call.DelMpf id) has all =
     checked_fits o (object_checks id (has_mpf o.pools (natural id)) []) b _ all (λ none. fixed_deleted o b (natural id) (fixed_at o.pools (natural id)) refl has all)
 pool_calls_fit o b who (call.GetMpf id timeout) has all =
     checked_fits o (calls.get_fixed_checks (parts o b) who id timeout) b _ all
     (λ none. let known = known_id 64 id (holds_at 0 (calls.get_fixed_checks (parts o b) who id timeout) none) in fixed_got o b (caller who) (natural id) timeout
-        (fixed_at o.pools (natural id)) refl known.0 known.1 all)
+    (fixed_at o.pools (natural id)) refl known.0 known.1 all)
 pool_calls_fit o b who (call.RelMpf id block) has all =
     checked_fits o (calls.release_fixed_checks (parts o b) id block) b _ all (λ none. block_back o b (natural id) (natural block) (fixed_at o.pools (natural id)) refl all)
 pool_calls_fit o b who (call.RefMpf id) has all = checked_fits o (object_checks id (has_mpf o.pools (natural id)) []) b _ all (λ none. all)
 pool_calls_fit o b who (call.CreMpl attributes size) has all =
     checked_fits o (calls.create_variable_checks (parts o b) attributes size) b _ all
     (λ none. variable_made o (take_bytes b (block_size (natural size))) (Some (calls.new_variable attributes (block_size (natural size))))
-        (taken_fits (order_for o) b (block_size (natural size)) all))
+    (taken_fits (order_for o) b (block_size (natural size)) all))
 pool_calls_fit o b who (call.DelMpl id) has all =
     checked_fits o (object_checks id (has_mpl o.pools (natural id)) []) b _ all (λ none. variable_deleted o b (natural id) (variable_at o.pools (natural id)) refl has all)
 pool_calls_fit o b who (call.GetMpl id size timeout) has all =
@@ -134,5 +134,5 @@ pool_calls_fit o b who (call.GetMpl id size timeout) has all =
     variable_got o b (caller who) (natural id) (block_size (natural size)) timeout (variable_at o.pools (natural id)) refl known.0 known.1 all)
 pool_calls_fit o b who (call.RelMpl id offset) has all =
     checked_fits o (calls.release_variable_checks (parts o b) id offset) b _ all (λ none. block_freed o b (natural id) (natural offset)
-        (variable_at o.pools (natural id)) refl all)
+    (variable_at o.pools (natural id)) refl all)
 pool_calls_fit o b who (call.RefMpl id) has all = checked_fits o (object_checks id (has_mpl o.pools (natural id)) []) b _ all (λ none. all)

@@ -88,7 +88,7 @@ sem_is o object own =
     let not_variable : (nat_le 512 object && nat_lt object 576) ≡ false = range_before 512 576 object (omega (arith, most)) in
     let not_device = device_before object (omega (arith, most)) in
     rw (task, not_flag, not_box, not_mutex, not_senders, not_receivers, not_fixed, not_variable, not_device, own)
-        (or_none (option_map (λ k. k.order) (sem_at o.sem_flags (object - 63))))
+    (or_none (option_map (λ k. k.order) (sem_at o.sem_flags (object - 63))))
 
 -- that of an event flag
 pub flag_is : (o : Objects) (object : ℕ) → in_range 128 192 object ≡ true → order_for o object ≡ option_map (λ k. k.order) (flag_at o.sem_flags (object - 127))
@@ -105,7 +105,7 @@ flag_is o object own =
     let not_variable : (nat_le 512 object && nat_lt object 576) ≡ false = range_before 512 576 object (omega (arith, most)) in
     let not_device = device_before object (omega (arith, most)) in
     rw (task, not_sem, not_box, not_mutex, not_senders, not_receivers, not_fixed, not_variable, not_device, own)
-        (or_none (option_map (λ k. k.order) (flag_at o.sem_flags (object - 127))))
+    (or_none (option_map (λ k. k.order) (flag_at o.sem_flags (object - 127))))
 
 -- that of a mailbox
 pub box_is : (o : Objects) (object : ℕ) → in_range 192 256 object ≡ true → order_for o object ≡ option_map (λ k. k.order) (box_at o.mails (object - 191))
@@ -122,7 +122,7 @@ box_is o object own =
     let not_variable : (nat_le 512 object && nat_lt object 576) ≡ false = range_before 512 576 object (omega (arith, most)) in
     let not_device = device_before object (omega (arith, most)) in
     rw (task, not_sem, not_flag, not_mutex, not_senders, not_receivers, not_fixed, not_variable, not_device, own)
-        (or_none (option_map (λ k. k.order) (box_at o.mails (object - 191))))
+    (or_none (option_map (λ k. k.order) (box_at o.mails (object - 191))))
 
 -- that of a mutex
 pub mutex_is : (o : Objects) (object : ℕ) → in_range 256 320 object ≡ true → order_for o object ≡ option_map (λ k. k.order) (mutex_at o.mutexes (object - 255))
@@ -139,7 +139,7 @@ mutex_is o object own =
     let not_variable : (nat_le 512 object && nat_lt object 576) ≡ false = range_before 512 576 object (omega (arith, most)) in
     let not_device = device_before object (omega (arith, most)) in
     rw (task, not_sem, not_flag, not_box, not_senders, not_receivers, not_fixed, not_variable, not_device, own)
-        (or_none (option_map (λ k. k.order) (mutex_at o.mutexes (object - 255))))
+    (or_none (option_map (λ k. k.order) (mutex_at o.mutexes (object - 255))))
 
 -- that of the senders of a message buffer
 pub senders_is : (o : Objects) (object : ℕ) → in_range 320 384 object ≡ true → order_for o object ≡ option_map (λ k. k.order) (buffer_at o.mails (object - 319))
@@ -156,7 +156,7 @@ senders_is o object own =
     let not_variable : (nat_le 512 object && nat_lt object 576) ≡ false = range_before 512 576 object (omega (arith, most)) in
     let not_device = device_before object (omega (arith, most)) in
     rw (task, not_sem, not_flag, not_box, not_mutex, not_receivers, not_fixed, not_variable, not_device, own)
-        (or_none (option_map (λ k. k.order) (buffer_at o.mails (object - 319))))
+    (or_none (option_map (λ k. k.order) (buffer_at o.mails (object - 319))))
 
 -- that of the receivers of a message buffer
 pub receivers_is : (o : Objects) (object : ℕ) → in_range 384 448 object ≡ true → order_for o object ≡ option_map (λ k. Fifo) (buffer_at o.mails (object - 383))
@@ -189,7 +189,7 @@ fixed_is o object own =
     let not_variable : (nat_le 512 object && nat_lt object 576) ≡ false = range_before 512 576 object (omega (arith, most)) in
     let not_device = device_before object (omega (arith, most)) in
     rw (task, not_sem, not_flag, not_box, not_mutex, not_senders, not_receivers, not_variable, not_device, own)
-        (or_none (option_map (λ k. k.order) (fixed_at o.pools (object - 447))))
+    (or_none (option_map (λ k. k.order) (fixed_at o.pools (object - 447))))
 
 -- that of a variable pool
 pub variable_is : (o : Objects) (object : ℕ) → in_range 512 576 object ≡ true → order_for o object ≡ option_map (λ k. k.order) (variable_at o.pools (object - 511))
@@ -206,7 +206,7 @@ variable_is o object own =
     let not_fixed : (nat_le 448 object && nat_lt object 512) ≡ false = range_past 448 512 object (omega (arith, least)) in
     let not_device = device_before object (omega (arith, most)) in
     rw (task, not_sem, not_flag, not_box, not_mutex, not_senders, not_receivers, not_fixed, not_device, own)
-        (or_none (option_map (λ k. k.order) (variable_at o.pools (object - 511))))
+    (or_none (option_map (λ k. k.order) (variable_at o.pools (object - 511))))
 
 -- that of a wait for a device
 pub device_is : (o : Objects) (object : ℕ) → 576 ≤ object → object ≤ 648 → order_for o object ≡ Some Fifo

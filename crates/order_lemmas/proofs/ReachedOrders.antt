@@ -84,7 +84,7 @@ served_orders p q few is has =
       known = it.known has.known;
       orders = right_same (order_for p.objects) (order_for q.objects) q.base it.orders
           (it.ends.keeps (AreRight (order_for p.objects)) (right_survives p.objects (IsWished p.objects.devices)
-              (λ dd wished. wished_few p.objects.devices dd has.known wished)) has.orders);
+          (λ dd wished. wished_few p.objects.devices dd has.known wished)) has.orders);
     }
 
 dev_right : (p : Parts) → HasOrders p → DevRight p.objects (dev_parts p)
@@ -139,8 +139,13 @@ orders_are_kept = record {
         orders = right_same (order_for (record p.objects { mails = (device_call (dev_parts p) who c).parts.mails }))
             (order_for (with_devices p (device_call (dev_parts p) who c).parts).objects) (device_call (dev_parts p) who c).parts.base (λ object. refl) right.orders;
       };
-  left = λ p t all has. record { places = placed.left p t all has.places; none = has.none; known = has.known; orders = right_same (order_for p.objects) _ p.base
-      (λ object. refl) has.orders };
+  left = λ p t all has. record {
+    places = placed.left p t all has.places;
+    none = has.none;
+    known = has.known;
+    orders = right_same (order_for p.objects) _ p.base
+        (λ object. refl) has.orders;
+  };
   freed = λ p t m is has. record { places = placed.freed p t m is has.places; none = has.none; known = has.known; orders = free_last_fits p.objects p.base t m is has.orders };
   deleted = λ p t has. of_base p _ (placed.deleted p t has.places) (delete_fits (order_for p.objects) p.base t has.orders) has;
   refreshed = λ p t priority has. of_base p _ (placed.refreshed p t priority has.places) (set_current_fits (order_for p.objects) p.base t priority has.orders) has;

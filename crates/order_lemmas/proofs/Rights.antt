@@ -108,7 +108,7 @@ row_fits orders b v k all at = subst (FitsRow orders) at (all v)
 pub create_fits : (orders : Orders) (b : Base) (v priority stack : ℕ) → AreRight orders b → AreRight orders (create b v priority stack)
 create_fits orders b v priority stack all =
     let slot : Option Task = Some
-        (record { phase = Dormant; queue = Fifo; base = priority; initial = priority; current = priority; wakeups = 0; suspensions = 0; stack = stack }) in
+    (record { phase = Dormant; queue = Fifo; base = priority; initial = priority; current = priority; wakeups = 0; suspensions = 0; stack = stack }) in
     written orders b v slot all tt
 
 -- a task becomes READY
@@ -162,7 +162,7 @@ set_wakeups_fits orders b v n all = entry_cases (AreRight orders) (task_at b v) 
 
 released_fits : (orders : Orders) (b : Base) (v : ℕ) (answer : Answer) (k : Task) (waits : Bool) → AreRight orders b →
     AreRight orders (cond waits (record (with_task (drop_wait b v) v (record k { phase = Ready }))
-        { order = back_unless_suspended v k.suspensions b.order; released = recorded v answer b.released }) b)
+    { order = back_unless_suspended v k.suspensions b.order; released = recorded v answer b.released }) b)
 released_fits orders b v answer k true all = written orders b v (Some (record k { phase = Ready })) all tt
 released_fits orders b v answer k false all = all
 
@@ -170,7 +170,7 @@ released_fits orders b v answer k false all = all
 pub release_fits : (orders : Orders) (b : Base) (v : ℕ) (answer : Answer) → AreRight orders b → AreRight orders (release b v answer)
 release_fits orders b v answer all =
     entry_cases (AreRight orders) (task_at b v) b (λ k. cond (is_waiting_phase k.phase) (record (with_task (drop_wait b v) v (record k { phase = Ready }))
-        { order = back_unless_suspended v k.suspensions b.order; released = recorded v answer b.released }) b) all
+    { order = back_unless_suspended v k.suspensions b.order; released = recorded v answer b.released }) b) all
     (λ k at. released_fits orders b v answer k (is_waiting_phase k.phase) all)
 
 limited_fits : (orders : Orders) (timeout : ℤ) (v : ℕ) (b : Base) → AreRight orders b → AreRight orders (limited timeout v b)
@@ -182,9 +182,9 @@ pub wait_fits : (orders : Orders) (b : Base) (v object : ℕ) (by : Order) (time
     AreRight orders (make_wait b v object by timeout)
 wait_fits orders b v object by timeout there all =
     entry_cases (AreRight orders) (task_at b v) b (λ k. limited timeout v (record (with_task (drop_wait b v) v (record k { phase = Waiting object; queue = by }))
-        { order = to_back v b.order; since = to_back v b.since; cur = gone v b.cur })) all
+    { order = to_back v b.order; since = to_back v b.since; cur = gone v b.cur })) all
     (λ k at. limited_fits orders timeout v (record (with_task (drop_wait b v) v (record k { phase = Waiting object; queue = by }))
-        { order = to_back v b.order; since = to_back v b.since; cur = gone v b.cur })
+    { order = to_back v b.order; since = to_back v b.since; cur = gone v b.cur })
     (written orders b v (Some (record k { phase = Waiting object; queue = by })) all there))
 
 moved_fits : (orders : Orders) (b : Base) (v object : ℕ) (by : Order) (k : Task) (waits : Bool) → orders object ≡ Some by → AreRight orders b →
@@ -203,7 +203,7 @@ move_fits orders b v object by there all =
 still_waits : (b : Base) (u t object : ℕ) (result : Answer) → waits_for (release b t result) object u ≡ true → (u ≡ t → ⊥)
 still_waits b u t object result waits same =
     let over : waits_somewhere (task_at (release b t result) u) ≡ false = subst (λ (v : ℕ). waits_somewhere (task_at (release b t result) v) ≡ false) (sym same)
-        (release_over b t result) in
+    (release_over b t result) in
     let on = waits_for_waits (release b t result) u object waits in
     absurd (cc (over, on))
 
@@ -237,7 +237,7 @@ stands_in Fifo b t object has waits =
     omega (arith, is, one)
 stands_in Priority b t object has waits =
     let is : times t (queue Priority b object) ≡ times t b.order = times_sort _ t (filter (waits_for b object) b.order) ∙ times_filter_is (waits_for b object) t b.order ∙ ap
-        (λ test. cond test (times t b.order) 0) waits in
+    (λ test. cond test (times t b.order) 0) waits in
     let one : 1 ≤ times t b.order = has.ranks t object waits in
     omega (arith, is, one)
 
@@ -260,7 +260,7 @@ no_places t (x ∷ ids) none one = absurd (omega (arith, none))
 
 none_next : (left : ℕ) (order : Order) (object : ℕ) (b : Base) → HavePlaces b → (ids : List ℕ) → queue order b object ≡ ids → length ids ≤ suc left →
     (t : ℕ) → ((c : Base) → HavePlaces c → length (queue order c object) ≤ left → waits_for (end_first left order object c) object t ≡ true → ⊥) → waits_for
-        (end_first left order object (first_ended ids b)) object t ≡ true → ⊥
+    (end_first left order object (first_ended ids b)) object t ≡ true → ⊥
 none_next left order object b has [] at few t rest waits = rest b has (subst (λ (ids : List ℕ). length ids ≤ left) (sym at) (omega arith)) waits
 none_next left order object b has (first ∷ ids) at few t rest waits =
     let result : Answer = plain (code_of er.Dlt) in

@@ -103,10 +103,10 @@ sem_flag_calls_fit o b who (call.CreFlg attributes pattern) has all =
     (λ none. flag_made o b (Some (record { order = calls.order_of attributes; many = attributes.ta_wmul; pattern = cast_unsigned w32 pattern })) all)
 sem_flag_calls_fit o b who (call.SetFlg id pattern) has all =
     checked_fits o (object_checks id (has_flag o.sem_flags id) []) b _ all (λ none. flag_changed o b (natural id) (λ old. bit_or old (cast_unsigned w32 pattern))
-        (flag_at o.sem_flags (natural id)) refl all)
+    (flag_at o.sem_flags (natural id)) refl all)
 sem_flag_calls_fit o b who (call.ClrFlg id pattern) has all =
     checked_fits o (object_checks id (has_flag o.sem_flags id) []) b _ all (λ none. flag_changed o b (natural id) (λ old. bit_and old (cast_unsigned w32 pattern))
-        (flag_at o.sem_flags (natural id)) refl all)
+    (flag_at o.sem_flags (natural id)) refl all)
 sem_flag_calls_fit o b who (call.WaiFlg id bits mode timeout) has all =
     checked_fits o (calls.wait_flag_checks b o.sem_flags who id bits mode timeout) b _ all
     (λ none. let known = known_id 64 id (holds_at 0 (calls.wait_flag_checks b o.sem_flags who id bits mode timeout) none) in

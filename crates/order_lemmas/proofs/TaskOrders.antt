@@ -43,7 +43,7 @@ done_fits orders false done waits over on = on
 slept_fits : (orders : Orders) (own : OfTasks orders) (b : Base) (v : ℕ) (timeout : ℤ) (requests : ℕ) → AreRight orders b → AreRight orders (slept b v timeout requests).base
 slept_fits orders own b v timeout zero all =
     done_fits orders (int_eq timeout (pos 0)) (record { base = b; outcome = failed er.TmOut })
-        (record { base = make_wait b v sleep_object Fifo timeout; outcome = outcomes.Blocked }) all (wait_fits orders b v sleep_object Fifo timeout own.sleeps all)
+    (record { base = make_wait b v sleep_object Fifo timeout; outcome = outcomes.Blocked }) all (wait_fits orders b v sleep_object Fifo timeout own.sleeps all)
 slept_fits orders own b v timeout (suc requests) all = set_wakeups_fits orders b v requests all
 
 -- bytes are taken, where there is room
@@ -74,8 +74,11 @@ woken_fits orders b v false all = set_wakeups_fits orders b v (wakeups_of b v + 
 call_fits : (orders : Orders) (own : OfTasks orders) (b : Base) (who : Who) (c : TaskCall) → AreRight orders b → AreRight orders (task_call b who c).base
 unfolding task_call create_task delete_task start_task exit_task terminate_task change_priority rotate_ready get_task refer_task sleep delay wake_up cancel_wakeups release_wait suspend_task resume_task
 call_fits orders own b who (call.CreTsk attributes body priority stack) all =
-    checked_fits orders (create_checks b attributes priority stack) b (record { base = create (take_bytes b (natural stack)) (free_task b) (natural priority)
-        (natural stack); outcome = done (pos (free_task b)) }) all
+    checked_fits orders (create_checks b attributes priority stack) b (record {
+      base = create (take_bytes b (natural stack)) (free_task b) (natural priority)
+          (natural stack);
+      outcome = done (pos (free_task b));
+    }) all
     (create_fits orders (take_bytes b (natural stack)) (free_task b) (natural priority) (natural stack) (taken_fits orders b (natural stack) all))
 call_fits orders own b who (call.DelTsk task) all = checked_fits orders (delete_checks b task) b (finished (delete b (natural task))) all
     (delete_fits orders b (natural task) all)
@@ -95,15 +98,15 @@ call_fits orders own b who call.GetTid all = all
 call_fits orders own b who (call.RefTsk task) all = checked_fits orders (named_checks b who task) b _ all all
 call_fits orders own b who (call.SlpTsk timeout) all =
     checked_fits orders (waiting_checks b who (negsuc 0) timeout) b (slept b (caller who) timeout (wakeups_of b (caller who))) all
-        (slept_fits orders own b (caller who) timeout (wakeups_of b (caller who)) all)
+    (slept_fits orders own b (caller who) timeout (wakeups_of b (caller who)) all)
 call_fits orders own b who (call.WupTsk task) all = checked_fits orders (wake_up_checks b who task) b (finished (woken b (natural task))) all
     (woken_fits orders b (natural task) (waits_for b sleep_object (natural task)) all)
 call_fits orders own b who (call.CanWup task) all =
     checked_fits orders (cancel_checks b who task) b (record { base = set_wakeups b (named who task) 0; outcome = done (pos (wakeups_of b (named who task))) }) all
-        (set_wakeups_fits orders b (named who task) 0 all)
+    (set_wakeups_fits orders b (named who task) 0 all)
 call_fits orders own b who (call.RelWai task) all =
     checked_fits orders (release_checks b task) b (finished (release b (natural task) (plain (code_of er.RlWai)))) all
-        (release_fits orders b (natural task) (plain (code_of er.RlWai)) all)
+    (release_fits orders b (natural task) (plain (code_of er.RlWai)) all)
 call_fits orders own b who (call.SusTsk task) all = checked_fits orders (suspend_checks b who task) b (finished (suspend b (natural task))) all
     (suspend_fits orders b (natural task) all)
 call_fits orders own b who (call.RsmTsk task) all = checked_fits orders (resume_checks b task) b (finished (resume b (natural task) false)) all
@@ -113,7 +116,7 @@ call_fits orders own b who (call.FrsmTsk task) all = checked_fits orders (resume
 call_fits orders own b who (call.DlyTsk time) all =
     checked_fits orders (waiting_checks b who (pos 0) time) b (delayed b (caller who) time) all
     (done_fits orders (int_eq time (pos 0)) (finished b) (record { base = make_wait b (caller who) delay_object Fifo time; outcome = outcomes.Blocked }) all
-        (wait_fits orders b (caller who) delay_object Fifo time own.delays all))
+    (wait_fits orders b (caller who) delay_object Fifo time own.delays all))
 
 change_fits : (orders : Orders) (b : Base) (m : Mutexes) (who : Who) (task priority : ℤ) → AreRight orders b → AreRight orders (change_priority_beside b m who task priority).base
 unfolding change_priority_beside

@@ -64,7 +64,7 @@ time_calls_fit orders b c call.GetTim all = all
 time_calls_fit orders b c call.GetOtm all = all
 time_calls_fit orders b c (call.CreCyc attributes body period phase) all =
     checked_fits orders (calls.create_cyclic_checks c attributes period phase) b c _ all (either_fits orders attributes.ta_sta
-        (set_for b (b.time + natural phase + 1) (Cyclic (free_cyclic c))) b all all)
+    (set_for b (b.time + natural phase + 1) (Cyclic (free_cyclic c))) b all all)
 time_calls_fit orders b c (call.StaCyc id) all = checked_fits orders (object_checks id (has_cyc c (natural id)) []) b c _ all
     (started_fits orders b (natural id) (cyclic_at c (natural id)) all)
 time_calls_fit orders b c (call.StpCyc id) all = checked_fits orders (object_checks id (has_cyc c (natural id)) []) b c _ all all

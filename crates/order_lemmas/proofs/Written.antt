@@ -39,7 +39,7 @@ sem_apart : (o : Objects) (b : Base) (id : ℕ) (slot : Option Semaphore) → ((
     IsApart (order_for o) (order_for (record o { sem_flags = with_sem o.sem_flags id slot })) b
 sem_apart o b id slot idle object =
     range_apart (IsIdle b object) (in_range 64 128 object) (λ x. cond (nat_lt object 2) (Some Fifo)
-        (or_order (x) (or_order (mutex_order o.mutexes object) (or_order (mail_order o.mails object) (or_order (pool_order o.pools object) (device_order object))))))
+    (or_order (x) (or_order (mutex_order o.mutexes object) (or_order (mail_order o.mails object) (or_order (pool_order o.pools object) (device_order object))))))
     (option_map (λ k. k.order) (entry (slice_set o.sem_flags.sems id slot) (object - 63))) (option_map (λ k. k.order) (entry o.sem_flags.sems (object - 63)))
     (cond (in_range 128 192 object) (option_map (λ k. k.order) (flag_at o.sem_flags (object - 127))) (None))
     (λ own. slot_apart (IsIdle b object) (λ k. k.order) o.sem_flags.sems id slot (object - 63) (idle object own))
@@ -67,8 +67,8 @@ pub sem_same : (o : Objects) (b : Base) (id : ℕ) (k now : Semaphore) → entry
     AreRight (order_for (record o { sem_flags = with_sem o.sem_flags id (Some now) })) b
 sem_same o b id k now at same all = right_same (order_for o) (order_for (record o { sem_flags = with_sem o.sem_flags id (Some now) })) b
     (λ object. ap (λ (y : Option Order). let x : Option Order = cond (in_range 64 128 object) y
-        (cond (in_range 128 192 object) (option_map (λ k. k.order) (flag_at o.sem_flags (object - 127))) (None)) in cond (nat_lt object 2) (Some Fifo)
-        (or_order (x) (or_order (mutex_order o.mutexes object) (or_order (mail_order o.mails object) (or_order (pool_order o.pools object) (device_order object))))))
+    (cond (in_range 128 192 object) (option_map (λ k. k.order) (flag_at o.sem_flags (object - 127))) (None)) in cond (nat_lt object 2) (Some Fifo)
+    (or_order (x) (or_order (mutex_order o.mutexes object) (or_order (mail_order o.mails object) (or_order (pool_order o.pools object) (device_order object))))))
     (order_written (λ (it : Semaphore). it.order) o.sem_flags.sems id k now at same (object - 63))) all
 
 -- ---- an event flag
@@ -77,8 +77,8 @@ flag_apart : (o : Objects) (b : Base) (id : ℕ) (slot : Option EventFlag) → (
     IsApart (order_for o) (order_for (record o { sem_flags = with_flag o.sem_flags id slot })) b
 flag_apart o b id slot idle object =
     range_apart (IsIdle b object) (in_range 128 192 object) (λ x. cond (nat_lt object 2) (Some Fifo)
-        (or_order (cond (in_range 64 128 object) (option_map (λ k. k.order) (sem_at o.sem_flags (object - 63))) (x))
-        (or_order (mutex_order o.mutexes object) (or_order (mail_order o.mails object) (or_order (pool_order o.pools object) (device_order object))))))
+    (or_order (cond (in_range 64 128 object) (option_map (λ k. k.order) (sem_at o.sem_flags (object - 63))) (x))
+    (or_order (mutex_order o.mutexes object) (or_order (mail_order o.mails object) (or_order (pool_order o.pools object) (device_order object))))))
     (option_map (λ k. k.order) (entry (slice_set o.sem_flags.flags id slot) (object - 127))) (option_map (λ k. k.order) (entry o.sem_flags.flags (object - 127)))
     (None)
     (λ own. slot_apart (IsIdle b object) (λ k. k.order) o.sem_flags.flags id slot (object - 127) (idle object own))
@@ -106,8 +106,8 @@ pub flag_same : (o : Objects) (b : Base) (id : ℕ) (k now : EventFlag) → entr
     AreRight (order_for (record o { sem_flags = with_flag o.sem_flags id (Some now) })) b
 flag_same o b id k now at same all = right_same (order_for o) (order_for (record o { sem_flags = with_flag o.sem_flags id (Some now) })) b
     (λ object. ap (λ (y : Option Order). let x : Option Order = cond (in_range 128 192 object) y (None) in cond (nat_lt object 2) (Some Fifo)
-        (or_order (cond (in_range 64 128 object) (option_map (λ k. k.order) (sem_at o.sem_flags (object - 63))) (x))
-        (or_order (mutex_order o.mutexes object) (or_order (mail_order o.mails object) (or_order (pool_order o.pools object) (device_order object))))))
+    (or_order (cond (in_range 64 128 object) (option_map (λ k. k.order) (sem_at o.sem_flags (object - 63))) (x))
+    (or_order (mutex_order o.mutexes object) (or_order (mail_order o.mails object) (or_order (pool_order o.pools object) (device_order object))))))
     (order_written (λ (it : EventFlag). it.order) o.sem_flags.flags id k now at same (object - 127))) all
 
 -- ---- a mutex
@@ -116,7 +116,7 @@ mutex_apart : (o : Objects) (b : Base) (id : ℕ) (slot : Option Mutex) → ((ob
     IsApart (order_for o) (order_for (record o { mutexes = with_mutex o.mutexes id slot })) b
 mutex_apart o b id slot idle object =
     range_apart (IsIdle b object) (in_range 256 320 object) (λ x. cond (nat_lt object 2) (Some Fifo)
-        (or_order (sem_flag_order o.sem_flags object) (or_order (x) (or_order (mail_order o.mails object) (or_order (pool_order o.pools object) (device_order object))))))
+    (or_order (sem_flag_order o.sem_flags object) (or_order (x) (or_order (mail_order o.mails object) (or_order (pool_order o.pools object) (device_order object))))))
     (option_map (λ k. k.order) (entry (slice_set o.mutexes.table id slot) (object - 255))) (option_map (λ k. k.order) (entry o.mutexes.table (object - 255)))
     (None)
     (λ own. slot_apart (IsIdle b object) (λ k. k.order) o.mutexes.table id slot (object - 255) (idle object own))
@@ -144,7 +144,7 @@ pub mutex_same : (o : Objects) (b : Base) (id : ℕ) (k now : Mutex) → entry o
     AreRight (order_for (record o { mutexes = with_mutex o.mutexes id (Some now) })) b
 mutex_same o b id k now at same all = right_same (order_for o) (order_for (record o { mutexes = with_mutex o.mutexes id (Some now) })) b
     (λ object. ap (λ (y : Option Order). let x : Option Order = cond (in_range 256 320 object) y (None) in cond (nat_lt object 2) (Some Fifo)
-        (or_order (sem_flag_order o.sem_flags object) (or_order (x) (or_order (mail_order o.mails object) (or_order (pool_order o.pools object) (device_order object))))))
+    (or_order (sem_flag_order o.sem_flags object) (or_order (x) (or_order (mail_order o.mails object) (or_order (pool_order o.pools object) (device_order object))))))
     (order_written (λ (it : Mutex). it.order) o.mutexes.table id k now at same (object - 255))) all
 
 -- ---- a mailbox
@@ -153,10 +153,10 @@ box_apart : (o : Objects) (b : Base) (id : ℕ) (slot : Option Mailbox) → ((ob
     IsApart (order_for o) (order_for (record o { mails = with_box o.mails id slot })) b
 box_apart o b id slot idle object =
     range_apart (IsIdle b object) (in_range 192 256 object) (λ x. cond (nat_lt object 2) (Some Fifo)
-        (or_order (sem_flag_order o.sem_flags object) (or_order (mutex_order o.mutexes object) (or_order (x) (or_order (pool_order o.pools object) (device_order object))))))
+    (or_order (sem_flag_order o.sem_flags object) (or_order (mutex_order o.mutexes object) (or_order (x) (or_order (pool_order o.pools object) (device_order object))))))
     (option_map (λ k. k.order) (entry (slice_set o.mails.boxes id slot) (object - 191))) (option_map (λ k. k.order) (entry o.mails.boxes (object - 191)))
     (cond (in_range 320 384 object) (option_map (λ k. k.order) (buffer_at o.mails (object - 319)))
-        (cond (in_range 384 448 object) (option_map (λ k. Fifo) (buffer_at o.mails (object - 383))) (None)))
+    (cond (in_range 384 448 object) (option_map (λ k. Fifo) (buffer_at o.mails (object - 383))) (None)))
     (λ own. slot_apart (IsIdle b object) (λ k. k.order) o.mails.boxes id slot (object - 191) (idle object own))
 
 -- a mailbox is written where there is none
@@ -182,9 +182,9 @@ pub box_same : (o : Objects) (b : Base) (id : ℕ) (k now : Mailbox) → entry o
     AreRight (order_for (record o { mails = with_box o.mails id (Some now) })) b
 box_same o b id k now at same all = right_same (order_for o) (order_for (record o { mails = with_box o.mails id (Some now) })) b
     (λ object. ap (λ (y : Option Order). let x : Option Order = cond (in_range 192 256 object) y
-        (cond (in_range 320 384 object) (option_map (λ k. k.order) (buffer_at o.mails (object - 319)))
-        (cond (in_range 384 448 object) (option_map (λ k. Fifo) (buffer_at o.mails (object - 383))) (None))) in cond (nat_lt object 2) (Some Fifo)
-        (or_order (sem_flag_order o.sem_flags object) (or_order (mutex_order o.mutexes object) (or_order (x) (or_order (pool_order o.pools object) (device_order object))))))
+    (cond (in_range 320 384 object) (option_map (λ k. k.order) (buffer_at o.mails (object - 319)))
+    (cond (in_range 384 448 object) (option_map (λ k. Fifo) (buffer_at o.mails (object - 383))) (None))) in cond (nat_lt object 2) (Some Fifo)
+    (or_order (sem_flag_order o.sem_flags object) (or_order (mutex_order o.mutexes object) (or_order (x) (or_order (pool_order o.pools object) (device_order object))))))
     (order_written (λ (it : Mailbox). it.order) o.mails.boxes id k now at same (object - 191))) all
 
 -- ---- a fixed pool
@@ -193,7 +193,7 @@ fixed_apart : (o : Objects) (b : Base) (id : ℕ) (slot : Option FixedPool) → 
     IsApart (order_for o) (order_for (record o { pools = with_fixed o.pools id slot })) b
 fixed_apart o b id slot idle object =
     range_apart (IsIdle b object) (in_range 448 512 object) (λ x. cond (nat_lt object 2) (Some Fifo)
-        (or_order (sem_flag_order o.sem_flags object) (or_order (mutex_order o.mutexes object) (or_order (mail_order o.mails object) (or_order (x) (device_order object))))))
+    (or_order (sem_flag_order o.sem_flags object) (or_order (mutex_order o.mutexes object) (or_order (mail_order o.mails object) (or_order (x) (device_order object))))))
     (option_map (λ k. k.order) (entry (slice_set o.pools.fixed id slot) (object - 447))) (option_map (λ k. k.order) (entry o.pools.fixed (object - 447)))
     (cond (in_range 512 576 object) (option_map (λ k. k.order) (variable_at o.pools (object - 511))) (None))
     (λ own. slot_apart (IsIdle b object) (λ k. k.order) o.pools.fixed id slot (object - 447) (idle object own))
@@ -221,8 +221,8 @@ pub fixed_same : (o : Objects) (b : Base) (id : ℕ) (k now : FixedPool) → ent
     AreRight (order_for (record o { pools = with_fixed o.pools id (Some now) })) b
 fixed_same o b id k now at same all = right_same (order_for o) (order_for (record o { pools = with_fixed o.pools id (Some now) })) b
     (λ object. ap (λ (y : Option Order). let x : Option Order = cond (in_range 448 512 object) y
-        (cond (in_range 512 576 object) (option_map (λ k. k.order) (variable_at o.pools (object - 511))) (None)) in cond (nat_lt object 2) (Some Fifo)
-        (or_order (sem_flag_order o.sem_flags object) (or_order (mutex_order o.mutexes object) (or_order (mail_order o.mails object) (or_order (x) (device_order object))))))
+    (cond (in_range 512 576 object) (option_map (λ k. k.order) (variable_at o.pools (object - 511))) (None)) in cond (nat_lt object 2) (Some Fifo)
+    (or_order (sem_flag_order o.sem_flags object) (or_order (mutex_order o.mutexes object) (or_order (mail_order o.mails object) (or_order (x) (device_order object))))))
     (order_written (λ (it : FixedPool). it.order) o.pools.fixed id k now at same (object - 447))) all
 
 -- ---- a variable pool
@@ -231,9 +231,9 @@ variable_apart : (o : Objects) (b : Base) (id : ℕ) (slot : Option VariablePool
     IsApart (order_for o) (order_for (record o { pools = with_variable o.pools id slot })) b
 variable_apart o b id slot idle object =
     range_apart (IsIdle b object) (in_range 512 576 object) (λ x. cond (nat_lt object 2) (Some Fifo)
-        (or_order (sem_flag_order o.sem_flags object) (or_order (mutex_order o.mutexes object)
-        (or_order (mail_order o.mails object) (or_order (cond (in_range 448 512 object) (option_map (λ k. k.order) (fixed_at o.pools (object - 447))) (x))
-        (device_order object))))))
+    (or_order (sem_flag_order o.sem_flags object) (or_order (mutex_order o.mutexes object)
+    (or_order (mail_order o.mails object) (or_order (cond (in_range 448 512 object) (option_map (λ k. k.order) (fixed_at o.pools (object - 447))) (x))
+    (device_order object))))))
     (option_map (λ k. k.order) (entry (slice_set o.pools.variable id slot) (object - 511))) (option_map (λ k. k.order) (entry o.pools.variable (object - 511)))
     (None)
     (λ own. slot_apart (IsIdle b object) (λ k. k.order) o.pools.variable id slot (object - 511) (idle object own))
@@ -261,9 +261,9 @@ pub variable_same : (o : Objects) (b : Base) (id : ℕ) (k now : VariablePool) �
     AreRight (order_for (record o { pools = with_variable o.pools id (Some now) })) b
 variable_same o b id k now at same all = right_same (order_for o) (order_for (record o { pools = with_variable o.pools id (Some now) })) b
     (λ object. ap (λ (y : Option Order). let x : Option Order = cond (in_range 512 576 object) y (None) in cond (nat_lt object 2) (Some Fifo)
-        (or_order (sem_flag_order o.sem_flags object) (or_order (mutex_order o.mutexes object)
-        (or_order (mail_order o.mails object) (or_order (cond (in_range 448 512 object) (option_map (λ k. k.order) (fixed_at o.pools (object - 447))) (x))
-        (device_order object))))))
+    (or_order (sem_flag_order o.sem_flags object) (or_order (mutex_order o.mutexes object)
+    (or_order (mail_order o.mails object) (or_order (cond (in_range 448 512 object) (option_map (λ k. k.order) (fixed_at o.pools (object - 447))) (x))
+    (device_order object))))))
     (order_written (λ (it : VariablePool). it.order) o.pools.variable id k now at same (object - 511))) all
 
 -- ---- a message buffer
@@ -272,9 +272,9 @@ buffer_apart : (o : Objects) (b : Base) (id : ℕ) (slot : Option MessageBuffer)
     ((object : ℕ) → in_range 384 448 object ≡ true → object - 383 ≡ id → IsIdle b object) → IsApart (order_for o) (order_for (record o { mails = with_buffer o.mails id slot })) b
 buffer_apart o b id slot sends receives object =
     ranges_apart (IsIdle b object) (in_range 320 384 object) (in_range 384 448 object) (λ x. cond (nat_lt object 2) (Some Fifo)
-        (or_order (sem_flag_order o.sem_flags object) (or_order (mutex_order o.mutexes object)
-        (or_order (cond (in_range 192 256 object) (option_map (λ k. k.order) (box_at o.mails (object - 191))) (x))
-        (or_order (pool_order o.pools object) (device_order object))))))
+    (or_order (sem_flag_order o.sem_flags object) (or_order (mutex_order o.mutexes object)
+    (or_order (cond (in_range 192 256 object) (option_map (λ k. k.order) (box_at o.mails (object - 191))) (x))
+    (or_order (pool_order o.pools object) (device_order object))))))
     (option_map (λ k. k.order) (entry (slice_set o.mails.buffers id slot) (object - 319))) (option_map (λ k. k.order) (entry o.mails.buffers (object - 319)))
     (option_map (λ k. Fifo) (entry (slice_set o.mails.buffers id slot) (object - 383))) (option_map (λ k. Fifo) (entry o.mails.buffers (object - 383)))
     None
@@ -309,13 +309,13 @@ pub buffer_same : (o : Objects) (b : Base) (id : ℕ) (k now : MessageBuffer) �
     AreRight (order_for (record o { mails = with_buffer o.mails id (Some now) })) b
 buffer_same o b id k now at same all = right_same (order_for o) (order_for (record o { mails = with_buffer o.mails id (Some now) })) b
     (λ object. ap (λ (y : Option Order). let x : Option Order = cond (in_range 320 384 object) y
-        (cond (in_range 384 448 object) (option_map (λ k. Fifo) (entry (slice_set o.mails.buffers id (Some now)) (object - 383))) None) in cond (nat_lt object 2) (Some Fifo)
-        (or_order (sem_flag_order o.sem_flags object) (or_order (mutex_order o.mutexes object)
-        (or_order (cond (in_range 192 256 object) (option_map (λ k. k.order) (box_at o.mails (object - 191))) (x))
-        (or_order (pool_order o.pools object) (device_order object))))))
+    (cond (in_range 384 448 object) (option_map (λ k. Fifo) (entry (slice_set o.mails.buffers id (Some now)) (object - 383))) None) in cond (nat_lt object 2) (Some Fifo)
+    (or_order (sem_flag_order o.sem_flags object) (or_order (mutex_order o.mutexes object)
+    (or_order (cond (in_range 192 256 object) (option_map (λ k. k.order) (box_at o.mails (object - 191))) (x))
+    (or_order (pool_order o.pools object) (device_order object))))))
     (order_written (λ (it : MessageBuffer). it.order) o.mails.buffers id k now at same (object - 319))
     ∙ ap (λ (y : Option Order). let x : Option Order = cond (in_range 320 384 object) (option_map (λ k. k.order) (entry o.mails.buffers (object - 319)))
-        (cond (in_range 384 448 object) y None) in cond (nat_lt object 2) (Some Fifo) (or_order (sem_flag_order o.sem_flags object)
-        (or_order (mutex_order o.mutexes object) (or_order (cond (in_range 192 256 object) (option_map (λ k. k.order) (box_at o.mails (object - 191))) (x))
-        (or_order (pool_order o.pools object) (device_order object))))))
+    (cond (in_range 384 448 object) y None) in cond (nat_lt object 2) (Some Fifo) (or_order (sem_flag_order o.sem_flags object)
+    (or_order (mutex_order o.mutexes object) (or_order (cond (in_range 192 256 object) (option_map (λ k. k.order) (box_at o.mails (object - 191))) (x))
+    (or_order (pool_order o.pools object) (device_order object))))))
     (order_written (λ (it : MessageBuffer). Fifo) o.mails.buffers id k now at refl (object - 383))) all

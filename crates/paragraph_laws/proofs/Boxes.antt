@@ -44,8 +44,7 @@ but_boxes : (p : Parts) (c : Base) (m : Mails) (id : ℕ) → AreShort p.objects
 unfolding NoneBut AllKinds
 but_boxes p c m id short one most away buffers sending none =
     let q : Parts = mails_to p c m in
-    let devices = devices_beside p c m (box_object id) away (omega (arith, most)) none in
-    (
+    let devices = devices_beside p c m (box_object id) away (omega (arith, most)) none in (
       mapped_none _ _ (sem_flags_beside p c (box_object id) short away (λ other least low e. omega (arith, one, low, e)) (λ other least low e. omega (arith, one, low, e)) none),
       (
         mapped_none _ _ (mutexes_beside p c (box_object id) short away (λ other least low e. omega (arith, most, least, e)) none),
@@ -180,7 +179,7 @@ box_case mode p t id timeout k (first ∷ rest) there may short one most at sett
     (record {
       unserved = done;
       up_to_date = kept_up_to_date c left p.objects.mutexes
-      (kept_then c (release c t result) left (served_keeps p.base t (box_object id) k.order timeout result may no_mutex) (given_keeps (release c t result) message_bytes)) up;
+          (kept_then c (release c t result) left (served_keeps p.base t (box_object id) k.order timeout result may no_mutex) (given_keeps (release c t result) message_bytes)) up;
       given = given_still mode p served refl (rejoined 648) settled.given;
     })
     (joined_waits p.base t (box_object id) k.order timeout may) refl

@@ -61,16 +61,15 @@ same_at of b c t k now written at same u =
 written_keeps : (b c : Base) (t : ℕ) (k now : Task) → c.tasks ≡ slice_set b.tasks t (Some now) → task_at b t ≡ Some k → is_dormant_phase now.phase ≡ is_dormant_phase k.phase →
     now.base ≡ k.base → now.current ≡ k.current →
     awaited_in_phase now.phase ≡ awaited_in_phase k.phase → KeepsPriorities b c
-written_keeps b c t k now written at lives bases currents awaits =
-    (
-      record {
-        lives = same_at is_alive b c t k now written at (ap not lives);
-        bases = same_at base_in b c t k now written at bases;
-        awaits = same_at awaited_in b c t k now written at awaits;
-        ids = ap (λ tasks. taken_from 1 (drop 1 tasks)) written ∙ ids_written t b.tasks k now at;
-      },
-      same_at current_in b c t k now written at currents,
-    )
+written_keeps b c t k now written at lives bases currents awaits = (
+  record {
+    lives = same_at is_alive b c t k now written at (ap not lives);
+    bases = same_at base_in b c t k now written at bases;
+    awaits = same_at awaited_in b c t k now written at awaits;
+    ids = ap (λ tasks. taken_from 1 (drop 1 tasks)) written ∙ ids_written t b.tasks k now at;
+  },
+  same_at current_in b c t k now written at currents,
+)
 
 -- the number of an object that is no mutex
 abbrev pub IsNoMutex : ℕ → Type 0

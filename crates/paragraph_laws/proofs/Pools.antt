@@ -44,8 +44,7 @@ but_fixed : (p : Parts) (c : Base) (m : Pools) (id : ℕ) → AreShort p.objects
 unfolding NoneBut AllKinds
 but_fixed p c m id short one most away variable sizes none =
     let q : Parts = pools_to p c m in
-    let devices = devices_beside p c p.objects.mails (fixed_object id) away (omega (arith, most)) none in
-    (
+    let devices = devices_beside p c p.objects.mails (fixed_object id) away (omega (arith, most)) none in (
       mapped_none _ _ (sem_flags_beside p c (fixed_object id) short away (λ other least low e. omega (arith, one, low, e)) (λ other least low e. omega (arith, one, low, e)) none),
       (
         mapped_none _ _ (boxes_beside p (mail_parts q) (fixed_object id) refl short away (λ other least low e. omega (arith, one, low, e)) none),

@@ -50,8 +50,7 @@ but_sem_flags : (p : Parts) (c : Base) (s : SemFlags) (object : ℕ) → AreShor
 unfolding NoneBut AllKinds
 but_sem_flags p c s object short low high away none =
     let q : Parts = sem_flags_to p c s in
-    let devices = devices_beside p c p.objects.mails object away (omega (arith, high)) none in
-    (
+    let devices = devices_beside p c p.objects.mails object away (omega (arith, high)) none in (
       mapped_none _ _ (boxes_beside p (mail_parts q) object refl short away (λ other least most e. omega (arith, high, least, e)) none),
       (
         mapped_none _ _ (mutexes_beside p c object short away (λ other least most e. omega (arith, high, least, e)) none),
@@ -161,7 +160,7 @@ sem_case mode p t id n timeout k false may short one most at inside settled own 
     sym (waits_on mode p now t timeout
     (record {
       unserved = sem_flags_first p c asked (sem_object id) short (omega (arith, one)) (omega (arith, most)) away (none_of p settled.unserved) ∙ ap
-      (option_map (with_sem_flags now)) own;
+          (option_map (with_sem_flags now)) own;
       up_to_date = kept_up_to_date p.base c p.objects.mutexes (joined_keeps p.base t (sem_object id) k.order timeout may no_mutex) settled.up_to_date;
       given = given_still mode p now refl (away 648 (λ e. omega (arith, e, most))) settled.given;
     })
@@ -283,7 +282,7 @@ flag_case mode p t id wish timeout k false may short one most at inside settled 
     sym (waits_on mode p now t timeout
     (record {
       unserved = sem_flags_first p c asked (flag_object id) short (omega (arith, one)) (omega (arith, most)) away (none_of p settled.unserved) ∙ ap
-      (option_map (with_sem_flags now)) own;
+          (option_map (with_sem_flags now)) own;
       up_to_date = kept_up_to_date p.base c p.objects.mutexes (joined_keeps p.base t (flag_object id) k.order timeout may no_mutex) settled.up_to_date;
       given = given_still mode p now refl (away 648 (λ e. omega (arith, e, most))) settled.given;
     })

@@ -50,8 +50,7 @@ but_variable : (p : Parts) (c : Base) (m : Pools) (id : ℕ) → AreShort p.obje
 unfolding NoneBut AllKinds
 but_variable p c m id short one most away fixed none =
     let q : Parts = pools_to p c m in
-    let devices = devices_beside p c p.objects.mails (variable_object id) away (omega (arith, most)) none in
-    (
+    let devices = devices_beside p c p.objects.mails (variable_object id) away (omega (arith, most)) none in (
       mapped_none _ _ (sem_flags_beside p c (variable_object id) short away (λ other least low e. omega (arith, one, low, e)) (λ other least low e. omega (arith, one, low, e)) none),
       (
         mapped_none _ _ (boxes_beside p (mail_parts q) (variable_object id) refl short away (λ other least low e. omega (arith, one, low, e)) none),

@@ -28,11 +28,11 @@ pub fn a_waiting_call_is_the_paragraph()
     ensures semaphore { (mode : Mode) (p : Parts) (t id n : ℕ) (timeout : ℤ) (k : Semaphore) → IsSettled mode p → MayWait p.base t → 1 ≤ id →
         sem_at p.objects.sem_flags id ≡ Some k → t < length p.objects.sem_flags.counts →
         sem_flag_waits p (waited_for_sem p.base p.objects.sem_flags t id n timeout (Some k)) ≡
-            paragraph mode p t (sem_object id) k.order timeout (record p.objects { sem_flags = asked_count p.objects.sem_flags t n }) }
+        paragraph mode p t (sem_object id) k.order timeout (record p.objects { sem_flags = asked_count p.objects.sem_flags t n }) }
     ensures flag { (mode : Mode) (p : Parts) (t id : ℕ) (wish : FlagWish) (timeout : ℤ) (k : EventFlag) → IsSettled mode p → MayWait p.base t → 1 ≤ id →
         flag_at p.objects.sem_flags id ≡ Some k → t < length p.objects.sem_flags.wishes →
         sem_flag_waits p (waited_for_flag p.base p.objects.sem_flags t id wish timeout (Some k)) ≡
-            paragraph mode p t (flag_object id) k.order timeout (record p.objects { sem_flags = asked_wish p.objects.sem_flags t wish }) }
+        paragraph mode p t (flag_object id) k.order timeout (record p.objects { sem_flags = asked_wish p.objects.sem_flags t wish }) }
     ensures mailbox { (mode : Mode) (p : Parts) (t id : ℕ) (timeout : ℤ) (k : Mailbox) → IsSettled mode p → MayWait p.base t → 1 ≤ id →
         box_at p.objects.mails id ≡ Some k →
         mail_waits p (received_from_box (mail_parts p) t id timeout (Some k)) ≡ paragraph mode p t (box_object id) k.order timeout p.objects }
@@ -42,5 +42,5 @@ pub fn a_waiting_call_is_the_paragraph()
     ensures variable { (mode : Mode) (p : Parts) (t id n : ℕ) (timeout : ℤ) (k : VariablePool) → IsSettled mode p → MayWait p.base t → 1 ≤ id →
         variable_at p.objects.pools id ≡ Some k → LieApart k → 0 < n → t < length p.objects.pools.sizes →
         pool_waits p (got_from_variable (pool_parts p) t id n timeout (Some k)) ≡
-            paragraph mode p t (variable_object id) k.order timeout (record p.objects { pools = asked_size p.objects.pools t n }) }
+        paragraph mode p t (variable_object id) k.order timeout (record p.objects { pools = asked_size p.objects.pools t n }) }
 {}

@@ -69,7 +69,7 @@ pub returns-clause-still_fresh : goal.returns-clause-still_fresh
 returns-clause-still_fresh c = λ script mode n st t one few place ready fresh heirs handler task.
     let is = asked (parts_of st) t one few place ready fresh heirs in
     (preempted_then t (parts_of st) (parts_of (worked script mode n st).state) is
-     (stands_worked (task_at st.base t) t (Alone t (parts_of st)) script mode n st (settles_first t (parts_of st) is) (handler, task) (stands_first t (parts_of st) is))).fresh
+    (stands_worked (task_at st.base t) t (Alone t (parts_of st)) script mode n st (settles_first t (parts_of st) is) (handler, task) (stands_first t (parts_of st) is))).fresh
 
 pub returns-clause-still_alone : goal.returns-clause-still_alone
 returns-clause-still_alone c = λ script mode n st t one few place ready fresh heirs handler task.
@@ -82,7 +82,7 @@ returns-clause-statements c = acted_place
 pub returns-clause-calls : goal.returns-clause-calls
 returns-clause-calls c = λ mode n st caller call t few place ready no_task no_mutex now.
     (called_stands (task_at st.base t) t (λ m. Unit {0}) mode n st caller call ready (no_task, no_mutex)
-     (record { place = record { base = record { is = refl; place = place }; mutexes = tt }; few = few }) now).place.base.place
+    (record { place = record { base = record { is = refl; place = place }; mutexes = tt }; few = few }) now).place.base.place
 
 pub returns-clause-calls_follow : goal.returns-clause-calls_follow
 returns-clause-calls_follow c = λ script mode n st caller call t one few place ready fresh heirs no_task no_mutex now.
@@ -97,12 +97,12 @@ same_caller (suc u) t apart is = apart is
 pub returns-clause-mutex_calls : goal.returns-clause-mutex_calls
 returns-clause-mutex_calls c = λ mode n st caller call t one few place ready none apart now.
     (mutex_called (task_at st.base t) t mode n st caller call one ready (same_caller caller t apart)
-     (record { place = record { base = record { is = refl; place = place }; mutexes = none }; few = few }) now).place.base.place
+    (record { place = record { base = record { is = refl; place = place }; mutexes = none }; few = few }) now).place.base.place
 
 pub returns-clause-mutex_calls_follow : goal.returns-clause-mutex_calls_follow
 returns-clause-mutex_calls_follow c = λ script mode n st caller call t one few place ready same none apart now.
     (mutex_followed (task_at st.base t) t script mode n st caller call (owning_none_settles (task_at st.base t) t one ready same) (same_caller caller t apart)
-     (record { place = record { base = record { is = refl; place = place }; mutexes = none }; few = few }) now).place.base.place
+    (record { place = record { base = record { is = refl; place = place }; mutexes = none }; few = few }) now).place.base.place
 
 pub returns-clause-task_calls : goal.returns-clause-task_calls
 returns-clause-task_calls c = λ b m who t call place ready rotates changes now same.
@@ -112,7 +112,7 @@ pub returns-clause-task_calls_follow : goal.returns-clause-task_calls_follow
 returns-clause-task_calls_follow c = λ script mode n st caller call t one few place ready fresh heirs rotates changes apart same.
     let is = asked (parts_of st) t one few place ready fresh heirs in
     (task_followed (task_at st.base t) t (Alone t (parts_of st)) script mode n st caller call (settles_first t (parts_of st) is) (record { rotates = rotates; changes = changes }) apart same
-     (stands_first t (parts_of st) is)).place.base.place
+    (stands_first t (parts_of st) is)).place.base.place
 
 pub returns-clause-owning_none : goal.returns-clause-owning_none
 returns-clause-owning_none c = λ p t one none. current_owning_none p.base p.objects.mutexes t none one
