@@ -281,6 +281,119 @@ closing_descriptor_run : text_of_lines (lines_of (trace closing_descriptor_scrip
 unfolding closing_descriptor_script closing_descriptor_entries closing_descriptor_lines text_of form_of named made task_call_name sem_flag_call_name mutex_call_name mail_call_name pool_call_name time_call_name context_call_name device_call_name hook_call_name name_of code_of error_text coded error_named attributes_of flag_mode_of open_mode_of suspend_mode_of is_name_byte name_at_most why_text value_text words_of text_of_line text_of_lines fetch give call_before create_sem create_flag end_first delete_sem delete_flag refer_sem refer_flag signal_sem set_flag clear_flag wait_sem wait_flag sem_flag_call serve_sem serve_flag first_served serve_sem_flag sem_trial flag_trial chosen free_task create_task delete_task start_task exit_task terminate_task change_priority rotate_ready get_task refer_task sleep delay wake_up cancel_wakeups release_wait suspend_task resume_task task_call mark_of allowed free_from first_serving serve_box serve_mailboxes serve_buffer serve_buffers post create_box delete_box send_box receive_box refer_box create_buffer delete_buffer send_buffer receive_buffer refer_buffer mail_call create_mutex lock_mutex unlock_mutex refer_mutex delete_mutex mutex_call change_priority_beside task_call_beside chain_has current_of resettle free_last ceiling_allows serve_mutex serve_mutexes create_fixed delete_fixed get_fixed release_fixed refer_fixed create_variable delete_variable get_variable release_variable refer_variable pool_call first_free serve_fixed serve_fixed_pools serve_variable serve_variable_pools set_time get_time get_operating_time create_cyclic start_cyclic stop_cyclic delete_cyclic refer_cyclic create_alarm start_alarm stop_alarm delete_alarm refer_alarm time_call body_of next_due again define_handler disable_dispatch enable_dispatch disable_interrupts enable_interrupts refer_system define_service refer_service enter_service context_call left list_existing list_ready list_queue set_hook hook_call open_device refer_device request request_whole wait_ending close_device suspend_devices device_call expected arrive hand_over hand_first messages emptied read_bytes write_bytes accept picked serve_acceptance serve_acceptances serve_ending serve_endings is_with_driver serve_close serve_closes serve_suspension events_sent free_descriptor free_request first_queued at_driver accepted dropped handed asked devices_start block is_last blocks unit cut may_cut arrived entered returned body_returned family_call answered called follow_release follow_each with_releases dispatched followed insert_once with_requests handler_begun due_begun interrupt_begun served_within settle freed_within fallen due_done tick state_after worked counted step sync_runs sync_run entered_2 runs start trace acted ran turn_of done_turn first_serving_2 serve_object state_start digits
 closing_descriptor_run = refl
 
+-- At the ending that a close waits for its place goes to a caller whose request, for the event buffer, ends as it is
+-- accepted: that caller is served before the closer.
+ending_before_close_script : Script
+ending_before_close_script = record {
+  devices = record { name = codes "d"; kind = devices.Ram 64 } ∷ [];
+  pace = None;
+  irqs = [];
+  boot = record { body = 1; priority = 10 };
+  bodies =
+      record {
+        name = codes "main";
+        kind = kinds.Task;
+        labels = record { name = codes "again"; place = 6 } ∷ [];
+        stmts =
+            stmts.Call names.TkCreTsk (args.List 0 ∷ args.Body 2 ∷ args.Number (pos 5) ∷ args.Number (pos 512) ∷ []) ∷
+            stmts.Call names.TkCreTsk (args.List 0 ∷ args.Body 3 ∷ args.Number (pos 5) ∷ args.Number (pos 512) ∷ []) ∷
+            stmts.Call names.TkCreTsk (args.List 0 ∷ args.Body 4 ∷ args.Number (pos 5) ∷ args.Number (pos 512) ∷ []) ∷
+            stmts.Call names.TkOpnDev (args.Name (codes "d") ∷ args.List 4 ∷ []) ∷
+            stmts.Call names.TkOpnDev (args.Name (codes "d") ∷ args.List 4 ∷ []) ∷
+            stmts.Call names.TkReaDev (args.Number (pos 1) ∷ args.Number (pos 0) ∷ args.Number (pos 0) ∷ args.Number (pos 1) ∷ args.Number (negsuc 0) ∷ []) ∷
+            stmts.Call names.TkReaDev (args.Number (pos 2) ∷ args.Number (pos 0) ∷ args.Number (pos 0) ∷ args.Number (pos 1) ∷ args.Number (negsuc 0) ∷ []) ∷
+            stmts.Call names.TkReaDev (args.Number (pos 2) ∷ args.Number (pos 0) ∷ args.Number (pos 0) ∷ args.Number (pos 1) ∷ args.Number (negsuc 0) ∷ []) ∷
+            stmts.Call names.TkReaDev (args.Number (pos 2) ∷ args.Number (pos 0) ∷ args.Number (pos 0) ∷ args.Number (pos 1) ∷ args.Number (negsuc 0) ∷ []) ∷
+            stmts.Jump (conditions.NotEqual 0 (operands.Number (pos 16))) 0 ∷
+            stmts.Call names.TkStaTsk (args.Number (pos 2) ∷ args.Number (pos 0) ∷ []) ∷
+            stmts.Call names.TkStaTsk (args.Number (pos 3) ∷ args.Number (pos 0) ∷ []) ∷
+            stmts.Call names.TkTerTsk (args.Number (pos 2) ∷ []) ∷
+            stmts.Call names.TkStaTsk (args.Number (pos 4) ∷ args.Number (pos 0) ∷ []) ∷
+            stmts.Halt ∷
+            [];
+      } ∷
+      record {
+        name = codes "gone";
+        kind = kinds.Task;
+        labels = [];
+        stmts =
+            stmts.Call names.TkWriDev (args.Number (pos 1) ∷ args.Number (pos 0) ∷ args.Number (pos 0) ∷ args.Number (pos 1) ∷ args.Number (negsuc 0) ∷ []) ∷
+            [];
+      } ∷
+      record {
+        name = codes "e";
+        kind = kinds.Task;
+        labels = [];
+        stmts =
+            stmts.Call names.TkSwriDev (args.Number (pos 2) ∷ args.Number (negsuc 0) ∷ args.Number (pos 0) ∷ args.Number (pos 4) ∷ []) ∷
+            [];
+      } ∷
+      record {
+        name = codes "cl";
+        kind = kinds.Task;
+        labels = [];
+        stmts =
+            stmts.Call names.TkClsDev (args.Number (pos 1) ∷ []) ∷
+            [];
+      } ∷
+      [];
+}
+
+ending_before_close_entries : List Entry
+ending_before_close_entries = record { place = 34; device = 1; request = 1; how = hows.Done } ∷ []
+
+ending_before_close_lines : List ℕ
+ending_before_close_lines =
+    codes "0 D 1\n" ++
+    codes "1 C 1 tk_cre_tsk 2\n" ++
+    codes "2 C 1 tk_cre_tsk 3\n" ++
+    codes "3 C 1 tk_cre_tsk 4\n" ++
+    codes "4 C 1 tk_opn_dev 1\n" ++
+    codes "5 C 1 tk_opn_dev 2\n" ++
+    codes "6 C 1 tk_rea_dev 1\n" ++
+    codes "7 C 1 tk_rea_dev 2\n" ++
+    codes "8 C 1 tk_rea_dev 3\n" ++
+    codes "9 C 1 tk_rea_dev 4\n" ++
+    codes "11 C 1 tk_rea_dev 5\n" ++
+    codes "12 C 1 tk_rea_dev 6\n" ++
+    codes "13 C 1 tk_rea_dev 7\n" ++
+    codes "15 C 1 tk_rea_dev 8\n" ++
+    codes "16 C 1 tk_rea_dev 9\n" ++
+    codes "17 C 1 tk_rea_dev 10\n" ++
+    codes "19 C 1 tk_rea_dev 11\n" ++
+    codes "20 C 1 tk_rea_dev 12\n" ++
+    codes "21 C 1 tk_rea_dev 13\n" ++
+    codes "23 C 1 tk_rea_dev 14\n" ++
+    codes "24 C 1 tk_rea_dev 15\n" ++
+    codes "25 C 1 tk_rea_dev 16\n" ++
+    codes "27 C 1 tk_sta_tsk 0\n" ++
+    codes "27 D 2\n" ++
+    codes "28 B 2 tk_wri_dev\n" ++
+    codes "28 D 1\n" ++
+    codes "29 C 1 tk_sta_tsk 0\n" ++
+    codes "29 D 3\n" ++
+    codes "30 B 3 tk_swri_dev\n" ++
+    codes "30 D 1\n" ++
+    codes "31 C 1 tk_ter_tsk 0\n" ++
+    codes "32 C 1 tk_sta_tsk 0\n" ++
+    codes "32 D 4\n" ++
+    codes "33 B 4 tk_cls_dev\n" ++
+    codes "33 D 1\n" ++
+    codes "34 J 1 1 done 0 1\n" ++
+    codes "34 W 3 tk_swri_dev 4\n" ++
+    codes "34 W 4 tk_cls_dev 0\n" ++
+    codes "34 D 3\n" ++
+    codes "34 C 3 tk_ext_tsk 0\n" ++
+    codes "34 D 4\n" ++
+    codes "35 C 4 tk_ext_tsk 0\n" ++
+    codes "35 D 1\n" ++
+    codes "36 END halt\n" ++
+    []
+
+ending_before_close_run : text_of_lines (lines_of (trace ending_before_close_script modes.Free 100000 ending_before_close_entries)) ≡ ending_before_close_lines
+unfolding ending_before_close_script ending_before_close_entries ending_before_close_lines text_of form_of named made task_call_name sem_flag_call_name mutex_call_name mail_call_name pool_call_name time_call_name context_call_name device_call_name hook_call_name name_of code_of error_text coded error_named attributes_of flag_mode_of open_mode_of suspend_mode_of is_name_byte name_at_most why_text value_text words_of text_of_line text_of_lines fetch give call_before create_sem create_flag end_first delete_sem delete_flag refer_sem refer_flag signal_sem set_flag clear_flag wait_sem wait_flag sem_flag_call serve_sem serve_flag first_served serve_sem_flag sem_trial flag_trial chosen free_task create_task delete_task start_task exit_task terminate_task change_priority rotate_ready get_task refer_task sleep delay wake_up cancel_wakeups release_wait suspend_task resume_task task_call mark_of allowed free_from first_serving serve_box serve_mailboxes serve_buffer serve_buffers post create_box delete_box send_box receive_box refer_box create_buffer delete_buffer send_buffer receive_buffer refer_buffer mail_call create_mutex lock_mutex unlock_mutex refer_mutex delete_mutex mutex_call change_priority_beside task_call_beside chain_has current_of resettle free_last ceiling_allows serve_mutex serve_mutexes create_fixed delete_fixed get_fixed release_fixed refer_fixed create_variable delete_variable get_variable release_variable refer_variable pool_call first_free serve_fixed serve_fixed_pools serve_variable serve_variable_pools set_time get_time get_operating_time create_cyclic start_cyclic stop_cyclic delete_cyclic refer_cyclic create_alarm start_alarm stop_alarm delete_alarm refer_alarm time_call body_of next_due again define_handler disable_dispatch enable_dispatch disable_interrupts enable_interrupts refer_system define_service refer_service enter_service context_call left list_existing list_ready list_queue set_hook hook_call open_device refer_device request request_whole wait_ending close_device suspend_devices device_call expected arrive hand_over hand_first messages emptied read_bytes write_bytes accept picked serve_acceptance serve_acceptances serve_ending serve_endings is_with_driver serve_close serve_closes serve_suspension events_sent free_descriptor free_request first_queued at_driver accepted dropped handed asked devices_start block is_last blocks unit cut may_cut arrived entered returned body_returned family_call answered called follow_release follow_each with_releases dispatched followed insert_once with_requests handler_begun due_begun interrupt_begun served_within settle freed_within fallen due_done tick state_after worked counted step sync_runs sync_run entered_2 runs start trace acted ran turn_of done_turn first_serving_2 serve_object state_start digits
+ending_before_close_run = refl
+
 -- At the ending that a close waits for its request is dropped: a caller that waits for a place gets that place and that
 -- number, and is served before the closer. A terminated caller that waited for a place leaves no request.
 place_before_close_script : Script
