@@ -5,15 +5,15 @@ use Rattle.kernel_model.specs.Tasks.Calls.{caller}
 use Rattle.object_model.specs.Mutexes.Priority.{current_of}
 use Rattle.machine_model.specs.States.Objects.{Parts}
 use Rattle.machine_model.specs.States.State.{parts_of, who_of}
-use Rattle.machine_lemmas.proofs.PlacesCalls.{called_followed, called_stands}
-use Rattle.machine_lemmas.proofs.PlacesCeilings.{LendsNone}
-use Rattle.machine_lemmas.proofs.PlacesEvents.{stands_arrived, stands_followed, stands_holdings, stands_settled, stands_tick}
+use Rattle.place_lemmas.proofs.Calls.{called_followed, called_stands}
+use Rattle.place_lemmas.proofs.Ceilings.{LendsNone}
+use Rattle.place_lemmas.proofs.Events.{stands_arrived, stands_followed, stands_holdings, stands_settled, stands_tick}
 use Rattle.machine_model.specs.Runs.Step.{worked}
-use Rattle.machine_lemmas.proofs.PlacesKept.{Alone, IsPreempted, due_place, ended_place, interrupt_place, owning_none_settles, preempted_then, settled_owning_none, settles_first, stands_first, stands_worked}
-use Rattle.machine_lemmas.proofs.PlacesMutexes.{mutex_called, mutex_followed}
-use Rattle.machine_lemmas.proofs.PlacesOwned.{current_owning_none}
-use Rattle.machine_lemmas.proofs.PlacesStatements.{acted_place}
-use Rattle.machine_lemmas.proofs.PlacesTasks.{task_call_place, task_followed}
+use Rattle.place_lemmas.proofs.Kept.{Alone, IsPreempted, due_place, ended_place, interrupt_place, owning_none_settles, preempted_then, settled_owning_none, settles_first, stands_first, stands_worked}
+use Rattle.place_lemmas.proofs.Mutexes.{mutex_called, mutex_followed}
+use Rattle.place_lemmas.proofs.Owned.{current_owning_none}
+use Rattle.place_lemmas.proofs.Statements.{acted_place}
+use Rattle.place_lemmas.proofs.Tasks.{task_call_place, task_followed}
 use Rattle.machine_laws.proofs.places.preempted_task_keeps_its_place.Goals as goal
 
 -- what is asked of the task

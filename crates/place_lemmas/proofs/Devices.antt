@@ -28,8 +28,8 @@ use Rattle.device_model.specs.Devices.Suspension as suspension
 use Rattle.device_model.specs.Devices.Calls as calls
 use Rattle.device_model.specs.Devices.Calls.{DevDone}
 use Rattle.call_walk.proofs.DeviceCalls.{accept_keeps}
-use Rattle.machine_lemmas.proofs.PlacesMails.{Sent, post_keeps}
-use Rattle.machine_lemmas.proofs.PlacesMoves.{IsPassed}
+use Rattle.place_lemmas.proofs.Mails.{Sent, post_keeps}
+use Rattle.place_lemmas.proofs.Moves.{IsPassed}
 
 refused_keeps : (P : Base → Type 0) (error : Option Er) (p : DevParts) (effect : DevDone) → P p.base → P effect.parts.base → P (calls.refused_with error p effect).parts.base
 refused_keeps P (Some error) p effect has works = has

@@ -25,15 +25,15 @@ use Rattle.machine_model.specs.Events.Bodies.{entered, noted, undefined, withdra
 use Rattle.machine_model.specs.Events.Calls.{answered, called, ended_by, family_call, without_holdings}
 use Rattle.machine_model.specs.Events.Follow.{followed}
 use Rattle.machine_lemmas.proofs.FewDevices.{few_moves}
-use Rattle.machine_lemmas.proofs.PlacesContexts.{context_calls_keep}
-use Rattle.machine_lemmas.proofs.PlacesDevices.{device_calls_keep}
-use Rattle.machine_lemmas.proofs.PlacesEvents.{Stands, stands_followed}
-use Rattle.machine_lemmas.proofs.PlacesMails.{mail_calls_keep}
-use Rattle.machine_lemmas.proofs.PlacesMoves.{PlaceIfReady, place_passes}
-use Rattle.machine_lemmas.proofs.PlacesPools.{pool_calls_keep}
-use Rattle.machine_lemmas.proofs.PlacesSemFlags.{sem_flag_calls_keep}
-use Rattle.machine_lemmas.proofs.PlacesSettled.{HasPlace, Settles}
-use Rattle.machine_lemmas.proofs.PlacesTimes.{time_calls_keep}
+use Rattle.place_lemmas.proofs.Contexts.{context_calls_keep}
+use Rattle.place_lemmas.proofs.Devices.{device_calls_keep}
+use Rattle.place_lemmas.proofs.Events.{Stands, stands_followed}
+use Rattle.place_lemmas.proofs.Mails.{mail_calls_keep}
+use Rattle.place_lemmas.proofs.Moves.{PlaceIfReady, place_passes}
+use Rattle.place_lemmas.proofs.Pools.{pool_calls_keep}
+use Rattle.place_lemmas.proofs.SemFlags.{sem_flag_calls_keep}
+use Rattle.place_lemmas.proofs.Settled.{HasPlace, Settles}
+use Rattle.place_lemmas.proofs.Times.{time_calls_keep}
 use Rattle.machine_lemmas.proofs.Servings.{FewDevices}
 
 -- the task stands in its place, where it is ready

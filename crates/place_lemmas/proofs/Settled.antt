@@ -20,7 +20,7 @@ use Rattle.machine_model.specs.States.Objects.{Parts, serve_object}
 use Rattle.machine_model.specs.Events.Settle.{handed, refreshed, served_within, settle}
 use Rattle.machine_lemmas.proofs.Changes.{Survives}
 use Rattle.machine_lemmas.proofs.KnownDevices.{IsWished}
-use Rattle.machine_lemmas.proofs.PlacesOwned.{Passes, ready_apart, served_passes}
+use Rattle.place_lemmas.proofs.Owned.{Passes, ready_apart, served_passes}
 use Rattle.machine_lemmas.proofs.Servings.{FewDevices, serving}
 use Rattle.machine_lemmas.proofs.Settling.{few_served, next_served}
 

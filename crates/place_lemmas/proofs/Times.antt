@@ -16,7 +16,7 @@ use Rattle.context_model.specs.Clocks.Tables.{Clocks, cyclic_at, has_alm, has_cy
 use Rattle.context_model.specs.Clocks.Calls as calls
 use Rattle.context_model.specs.Clocks.Calls.{TimeDone, free_cyclic, started_cyclic, time_call, time_checked, time_refused}
 use Rattle.call_walk.proofs.BaseMoves.{either_base}
-use Rattle.machine_lemmas.proofs.PlacesMoves.{IsPassed}
+use Rattle.place_lemmas.proofs.Moves.{IsPassed}
 
 refused_keeps : (P : Base → Type 0) (error : Option Er) (b : Base) (c : Clocks) (effect : TimeDone) → P b → P effect.base → P (time_refused error b c effect).base
 refused_keeps P (Some error) b c effect has works = has

@@ -20,7 +20,7 @@ use Rattle.kernel_model.specs.SemFlags.Calls.{end_first, end_waits, first_ended}
 use Rattle.kernel_lemmas.proofs.Moves.{wait_keeps}
 use Rattle.kernel_lemmas.proofs.Releases.{release_keeps_place, release_ready}
 use Rattle.kernel_lemmas.proofs.Tables.{entry_cases, entry_other, entry_split, entry_there}
-use Rattle.machine_lemmas.proofs.PlacesSettled.{HasPlace, place_seen}
+use Rattle.place_lemmas.proofs.Settled.{HasPlace, place_seen}
 
 -- one word passes through all but the wait of the caller, after which another one holds, as it does where there is none
 pub record IsPassed (P R : Base → Type 0) : Type 0 where

@@ -21,10 +21,10 @@ use Rattle.machine_model.specs.Events.Handlers.{due_begun, handler_begun, interr
 use Rattle.machine_model.specs.Events.Settle.{settle}
 use Rattle.machine_model.specs.Runs.Turns.{done_turn, turn_of}
 use Rattle.machine_model.specs.Runs.Step.{made_pending, worked}
-use Rattle.machine_lemmas.proofs.PlacesCeilings.{IsAlone, LendsNone, alone_from, alone_settles}
-use Rattle.machine_lemmas.proofs.PlacesEvents.{Stands, stands_due_begun, stands_followed, stands_interrupt, stands_tick}
-use Rattle.machine_lemmas.proofs.PlacesOwned.{OwnsNone, current_owning_none, none_passes}
-use Rattle.machine_lemmas.proofs.PlacesSettled.{Settles, settled_place}
+use Rattle.place_lemmas.proofs.Ceilings.{IsAlone, LendsNone, alone_from, alone_settles}
+use Rattle.place_lemmas.proofs.Events.{Stands, stands_due_begun, stands_followed, stands_interrupt, stands_tick}
+use Rattle.place_lemmas.proofs.Owned.{OwnsNone, current_owning_none, none_passes}
+use Rattle.place_lemmas.proofs.Settled.{Settles, settled_place}
 use Rattle.machine_lemmas.proofs.Servings.{FewDevices}
 use Rattle.machine_lemmas.proofs.Walk.{pending_has}
 

@@ -31,8 +31,8 @@ use Rattle.machine_model.specs.Events.Handlers.{due_begun, handler_begun, interr
 use Rattle.machine_model.specs.Events.Settle.{freed_within, settle, with_freed}
 use Rattle.machine_model.specs.Events.Ticks.{due_done, fallen, limit_answer, tick}
 use Rattle.machine_lemmas.proofs.FewDevices.{few_arrivals, few_moves}
-use Rattle.machine_lemmas.proofs.PlacesOwned.{Passes}
-use Rattle.machine_lemmas.proofs.PlacesSettled.{HasPlace, IsInPlace, Settles, place_seen, settled_place}
+use Rattle.place_lemmas.proofs.Owned.{Passes}
+use Rattle.place_lemmas.proofs.Settled.{HasPlace, IsInPlace, Settles, place_seen, settled_place}
 use Rattle.machine_lemmas.proofs.Servings.{FewDevices}
 use Rattle.machine_lemmas.proofs.Settling.{few_settled}
 use Rattle.machine_lemmas.proofs.Walk.{settled_keeps}

@@ -18,8 +18,8 @@ use Rattle.object_model.specs.Mutexes.Priority.{capped, chain_has, current_of, h
 use Rattle.mutex_laws.proofs.Freed.{held_freed}
 use Rattle.mutex_laws.proofs.Least.{alive_if}
 use Rattle.mutex_laws.proofs.Unowned.{least_same}
-use Rattle.machine_lemmas.proofs.PlacesOwned.{Passes, chain_alone, heir_if, second}
-use Rattle.machine_lemmas.proofs.PlacesSettled.{Settles}
+use Rattle.place_lemmas.proofs.Owned.{Passes, chain_alone, heir_if, second}
+use Rattle.place_lemmas.proofs.Settled.{Settles}
 
 -- the task owns no inheritance mutex
 abbrev pub LendsNone : ℕ → Mutexes → Type 0

@@ -21,7 +21,7 @@ use Rattle.object_model.specs.Mails.Boxes.{message_bytes}
 use Rattle.object_model.specs.Mails.Buffers.{first_of, has_space, message_stored, none_waits, post, posted, receivers, senders, sent_at_once, takes_length}
 use Rattle.object_model.specs.Mails.Calls as calls
 use Rattle.object_model.specs.Mails.Calls.{MailDone, asked_into, asked_to_send, mail_call, mail_checked, mail_done, refused_with, waits_or_ends}
-use Rattle.machine_lemmas.proofs.PlacesMoves.{IsPassed, end_waits_keeps}
+use Rattle.place_lemmas.proofs.Moves.{IsPassed, end_waits_keeps}
 
 refused_keeps : (P : Base → Type 0) (error : Option Er) (p : MailParts) (effect : MailDone) → P p.base → P effect.base → P (refused_with error p effect).base
 refused_keeps P (Some error) p effect has works = has

@@ -11,7 +11,7 @@ use Rattle.machine_model.specs.Events.Bodies.{body_returned, returned}
 use Rattle.machine_model.specs.Events.Follow.{Event}
 use Rattle.machine_model.specs.Runs.Turns.{acted, fell_in}
 use Rattle.machine_model.specs.States.State.{State}
-use Rattle.machine_lemmas.proofs.PlacesKept.{ended_place}
+use Rattle.place_lemmas.proofs.Kept.{ended_place}
 
 either_place : (t : ℕ) (test : Bool) (one other : Event) → KeepsPlace one.state.base t → KeepsPlace other.state.base t → KeepsPlace (cond {A = Event} test one other).state.base t
 either_place t true one other first second = first

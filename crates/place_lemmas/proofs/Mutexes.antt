@@ -27,11 +27,11 @@ use Rattle.mutex_laws.proofs.Refusals.{mutex_cases}
 use Rattle.machine_model.specs.Events.Calls.{called, family_call}
 use Rattle.machine_model.specs.Events.Follow.{followed}
 use Rattle.machine_model.specs.States.State.{State, parts_of, who_of}
-use Rattle.machine_lemmas.proofs.PlacesCalls.{StandsIf, called_has}
-use Rattle.machine_lemmas.proofs.PlacesEvents.{Stands, stands_followed}
-use Rattle.machine_lemmas.proofs.PlacesMoves.{IsPassed, PlaceIfReady, end_waits_keeps, place_passes}
-use Rattle.machine_lemmas.proofs.PlacesOwned.{OwnsNone, freed_owner, written_none}
-use Rattle.machine_lemmas.proofs.PlacesSettled.{HasPlace, Settles}
+use Rattle.place_lemmas.proofs.Calls.{StandsIf, called_has}
+use Rattle.place_lemmas.proofs.Events.{Stands, stands_followed}
+use Rattle.place_lemmas.proofs.Moves.{IsPassed, PlaceIfReady, end_waits_keeps, place_passes}
+use Rattle.place_lemmas.proofs.Owned.{OwnsNone, freed_owner, written_none}
+use Rattle.place_lemmas.proofs.Settled.{HasPlace, Settles}
 
 refused_keeps : (P : Base → Type 0) (error : Option Er) (b : Base) (m : Mutexes) (effect : MutexDone) → P b → P effect.base → P (refused_with error b m effect).base
 refused_keeps P (Some error) b m effect has works = has

@@ -35,9 +35,9 @@ use Rattle.machine_model.specs.Events.Calls.{answered, called, ended_by, ended_i
 use Rattle.machine_model.specs.Events.Follow.{followed}
 use Rattle.machine_model.specs.States.Objects.{Parts}
 use Rattle.machine_model.specs.States.State.{State, frame_of, parts_of, who_of, with_frame}
-use Rattle.machine_lemmas.proofs.PlacesEvents.{Stands, stands_followed, stands_holdings}
-use Rattle.machine_lemmas.proofs.PlacesOwned.{second}
-use Rattle.machine_lemmas.proofs.PlacesSettled.{Settles}
+use Rattle.place_lemmas.proofs.Events.{Stands, stands_followed, stands_holdings}
+use Rattle.place_lemmas.proofs.Owned.{second}
+use Rattle.place_lemmas.proofs.Settled.{Settles}
 
 -- the call neither rotates the tasks of this one's priority nor changes its own
 pub record TakesNoPlace (b : Base) (who : Who) (t : ℕ) (it : TaskCall) : Type 0 where

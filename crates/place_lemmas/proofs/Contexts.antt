@@ -13,7 +13,7 @@ use Rattle.kernel_model.specs.Tasks.Marks.{allows}
 use Rattle.context_model.specs.Contexts.Tables.{Contexts, has_ssy}
 use Rattle.context_model.specs.Contexts.Calls as calls
 use Rattle.context_model.specs.Contexts.Calls.{ContextDone, context_call, context_checked, context_refused, flags_changed}
-use Rattle.machine_lemmas.proofs.PlacesMoves.{IsPassed}
+use Rattle.place_lemmas.proofs.Moves.{IsPassed}
 
 refused_keeps : (P : Base → Type 0) (error : Option Er) (b : Base) (c : Contexts) (effect : ContextDone) → P b → P effect.base → P (context_refused error b c effect).base
 refused_keeps P (Some error) b c effect has works = has

@@ -18,7 +18,7 @@ use Rattle.object_model.specs.Pools.Fixed.{free_block}
 use Rattle.object_model.specs.Pools.Variable.{block_size, variable_waiters}
 use Rattle.object_model.specs.Pools.Calls as calls
 use Rattle.object_model.specs.Pools.Calls.{PoolDone, place_for, pool_call, pool_checked, pool_done, refused_with, waits_or_ends}
-use Rattle.machine_lemmas.proofs.PlacesMoves.{IsPassed, end_waits_keeps}
+use Rattle.place_lemmas.proofs.Moves.{IsPassed, end_waits_keeps}
 
 refused_keeps : (P : Base → Type 0) (error : Option Er) (p : PoolParts) (effect : PoolDone) → P p.base → P effect.base → P (refused_with error p effect).base
 refused_keeps P (Some error) p effect has works = has

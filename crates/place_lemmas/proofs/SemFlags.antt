@@ -17,7 +17,7 @@ use Rattle.kernel_model.specs.SemFlags.Tables.{SemFlags, flag_at, flag_object, h
 use Rattle.kernel_model.specs.SemFlags.Calls as calls
 use Rattle.kernel_model.specs.SemFlags.Calls.{SemFlagDone, flag_waits_ended, has_flag, has_sem, object_checks, sem_flag_call, sem_flag_checked, sem_waits_ended, serves_at_once, waited_for_flag, waited_for_sem, waits_or_ends}
 use Rattle.call_lemmas.proofs.Checked.{sem_flag_cases}
-use Rattle.machine_lemmas.proofs.PlacesMoves.{IsPassed, end_waits_keeps}
+use Rattle.place_lemmas.proofs.Moves.{IsPassed, end_waits_keeps}
 
 -- a call is refused and leaves the base, or has its effect
 checked_keeps : (P : Base → Type 0) (checks : List Check) (b : Base) (s : SemFlags) (effect : SemFlagDone) → P b → P effect.base → P (sem_flag_checked checks b s effect).base

@@ -1,0 +1,16 @@
+pub mod Owned
+pub mod Settled
+pub mod Events
+pub mod Ceilings
+pub mod Kept
+pub mod Moves
+pub mod Mails
+pub mod Pools
+pub mod Contexts
+pub mod Times
+pub mod Devices
+pub mod SemFlags
+pub mod Calls
+pub mod Mutexes
+pub mod Tasks
+pub mod Statements
