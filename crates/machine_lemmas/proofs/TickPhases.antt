@@ -204,7 +204,8 @@ later_after past now at = record {
   added = λ event events after all. (later_survives past).added event events (omega (arith, after, at)) all;
 }
 
-again_within : (past : ℕ) (b : Base) (c : Clocks) (what : DueKind) → ArePeriodic c → due_event b.time b.events ≡ Some what → Within past c b → Within past c (again (take_due b) c what)
+again_within : (past : ℕ) (b : Base) (c : Clocks) (what : DueKind) → ArePeriodic c → due_event b.time b.events ≡ Some what → Within past c b →
+    Within past c (again (take_due b) c what)
 again_within past b c what periods due has = (
   again_time (take_due b) c what ∙ has.0,
   record {
@@ -228,7 +229,8 @@ tick_times mode st has =
     let past : ℕ = st.base.time in
     let c : Clocks = st.objects.clocks in
     let few = has.periods.0.few in
-    let done = tick_keeps (Within past c) (λ d. d ≡ c) mode (step_within past c mode has.periods.1) st few refl (refl, record { later = has.times.later; phase = has.times.phase }) in
+    let first : Within past c (record st.base { time = past + 1 }) = (refl, record { later = has.times.later; phase = has.times.phase }) in
+    let done = tick_keeps (Within past c) (λ d. d ≡ c) mode (step_within past c mode has.periods.1) st few refl first in
     record {
       periods = (of_kept Periodic periods_are_kept).ticks mode st has.periods;
       times = record {
@@ -245,7 +247,10 @@ kept = of_kept Periodic periods_are_kept
 
 handed_times : (mode : Mode) (p : Parts) → HasTimes p → HasTimes (handed mode p)
 handed_times modes.Sync p has = has
-handed_times modes.Free p has = record { periods = kept.handed modes.Free p has.periods; times = record { later = has.times.later; order = has.times.order; phase = has.times.phase } }
+handed_times modes.Free p has = record {
+  periods = kept.handed modes.Free p has.periods;
+  times = record { later = has.times.later; order = has.times.order; phase = has.times.phase };
+}
 
 times_are_kept : IsSteady HasTimes
 times_are_kept = record {
@@ -282,7 +287,10 @@ times_are_kept = record {
   left = λ p t all has. record { periods = kept.left p t all has.periods; times = has.times };
   freed = λ p t m is has. record { periods = kept.freed p t m is has.periods; times = has.times };
   deleted = λ p t has. record { periods = kept.deleted p t has.periods; times = moves p (delete p.base t) ((stays p).deleted p.base t) has };
-  refreshed = λ p t priority has. record { periods = kept.refreshed p t priority has.periods; times = moves p (set_current p.base t priority) ((stays p).refreshed p.base t priority) has };
+  refreshed = λ p t priority has. record {
+    periods = kept.refreshed p t priority has.periods;
+    times = moves p (set_current p.base t priority) ((stays p).refreshed p.base t priority) has;
+  };
   served = λ p q few is has. record {
     periods = kept.served p q few is has.periods;
     times = subst (λ (c : Clocks). AreTimes q.base.time c q.base.events) (sym (serving_clocks p q is))
