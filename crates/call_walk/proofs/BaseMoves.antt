@@ -49,42 +49,91 @@ pub record IsBaseProof (P : Base → Type 0) : Type 0 where
   pub turned : (b : Base) (cur : Option ℕ) → P b → P (record b { cur = cur })
   pub emptied : (b : Base) → P b → P (record b { released = [] })
 
+-- each move keeps it that neither sets events, nor takes them, nor makes time pass, beside the limits of waits
+pub record IsStillProof (P : Base → Type 0) : Type 0 where
+  -- tasks
+  pub created : (b : Base) (t priority stack : ℕ) → P b → P (create b t priority stack)
+  pub deleted : (b : Base) (t : ℕ) → P b → P (delete b t)
+  pub readied : (b : Base) (t : ℕ) → P b → P (make_ready b t)
+  pub ended : (b : Base) (t : ℕ) → P b → P (make_dormant b t)
+  pub suspended : (b : Base) (t : ℕ) → P b → P (suspend b t)
+  pub resumed : (b : Base) (t : ℕ) (all : Bool) → P b → P (resume b t all)
+  pub based : (b : Base) (t priority : ℕ) → P b → P (set_base b t priority)
+  pub refreshed : (b : Base) (t priority : ℕ) → P b → P (set_current b t priority)
+  pub woken : (b : Base) (t n : ℕ) → P b → P (set_wakeups b t n)
+  -- waits
+  pub waits : (b : Base) (t object : ℕ) (order : Order) (timeout : ℤ) → P b → P (make_wait b t object order timeout)
+  pub moved : (b : Base) (t object : ℕ) (order : Order) → P b → P (move_wait b t object order)
+  pub released : (b : Base) (t : ℕ) (answer : Answer) → P b → P (release b t answer)
+  -- stamps: a task takes the last place
+  pub placed : (b : Base) (t : ℕ) → P b → P (record b { order = to_back t b.order })
+  -- bytes
+  pub taken : (b : Base) (n : ℕ) → P b → P (take_bytes b n)
+  pub given : (b : Base) (n : ℕ) → P b → P (give_bytes b n)
+  -- dispatching
+  pub flagged : (b : Base) (flags : Flags) → P b → P (set_flags b flags)
+  pub turned : (b : Base) (cur : Option ℕ) → P b → P (record b { cur = cur })
+  pub emptied : (b : Base) → P b → P (record b { released = [] })
+
+-- what every move keeps these keep
+pub still : (P : Base → Type 0) → IsBaseProof P → IsStillProof P
+still P moves = record {
+  created = moves.created;
+  deleted = moves.deleted;
+  readied = moves.readied;
+  ended = moves.ended;
+  suspended = moves.suspended;
+  resumed = moves.resumed;
+  based = moves.based;
+  refreshed = moves.refreshed;
+  woken = moves.woken;
+  waits = moves.waits;
+  moved = moves.moved;
+  released = moves.released;
+  placed = moves.placed;
+  taken = moves.taken;
+  given = moves.given;
+  flagged = moves.flagged;
+  turned = moves.turned;
+  emptied = moves.emptied;
+}
+
 -- ---- what is made of few moves
 
 pub either_base : (P : Base → Type 0) (test : Bool) (one other : Base) → P one → P other → P (cond test one other)
 either_base P true one other first second = first
 either_base P false one other first second = second
 
-back_keeps : (P : Base → Type 0) → IsBaseProof P → (b : Base) (ids : List ℕ) → P b → P (record b { order = back_if_any ids b.order })
+back_keeps : (P : Base → Type 0) → IsStillProof P → (b : Base) (ids : List ℕ) → P b → P (record b { order = back_if_any ids b.order })
 back_keeps P is b [] has = has
 back_keeps P is b (t ∷ ts) has = is.placed b t has
 
 -- a rotation
-pub rotate_keeps : (P : Base → Type 0) → IsBaseProof P → (b : Base) (priority : ℕ) → P b → P (rotate b priority)
+pub rotate_keeps : (P : Base → Type 0) → IsStillProof P → (b : Base) (priority : ℕ) → P b → P (rotate b priority)
 rotate_keeps P is b priority has = back_keeps P is b (ready_of b priority) has
 
-placed_keeps : (P : Base → Type 0) → IsBaseProof P → (b : Base) (t priority : ℕ) (o : Option Task) → P (with_entry o b (λ k. with_task b t (record k { base = priority }))) →
+placed_keeps : (P : Base → Type 0) → IsStillProof P → (b : Base) (t priority : ℕ) (o : Option Task) → P (with_entry o b (λ k. with_task b t (record k { base = priority }))) →
     P (record (with_entry o b (λ k. with_task b t (record k { base = priority }))) { order = to_back t b.order })
 placed_keeps P is b t priority None has = is.placed b t has
 placed_keeps P is b t priority (Some k) has = is.placed (with_task b t (record k { base = priority })) t has
 
 -- a base priority, with a new stamp where the current one stays
-pub rebased_keeps : (P : Base → Type 0) → IsBaseProof P → (b : Base) (t priority : ℕ) → P b → P (rebased b t priority)
+pub rebased_keeps : (P : Base → Type 0) → IsStillProof P → (b : Base) (t priority : ℕ) → P b → P (rebased b t priority)
 rebased_keeps P is b t priority has =
     let now : P (set_base b t priority) = is.based b t priority has in
     either_base P (current b t == priority) (record (set_base b t priority) { order = to_back t b.order }) (set_base b t priority) (placed_keeps P is b t priority (task_at b t) now) now
 
-first_keeps : (P : Base → Type 0) → IsBaseProof P → (ids : List ℕ) (b : Base) → P b → P (first_ended ids b)
+first_keeps : (P : Base → Type 0) → IsStillProof P → (ids : List ℕ) (b : Base) → P b → P (first_ended ids b)
 first_keeps P is [] b has = has
 first_keeps P is (t ∷ ids) b has = is.released b t (plain (code_of er.Dlt)) has
 
-ends_keep : (P : Base → Type 0) → IsBaseProof P → (left : ℕ) (order : Order) (object : ℕ) (b : Base) → P b → P (end_first left order object b)
+ends_keep : (P : Base → Type 0) → IsStillProof P → (left : ℕ) (order : Order) (object : ℕ) (b : Base) → P b → P (end_first left order object b)
 unfolding end_first
 ends_keep P is zero order object b has = has
 ends_keep P is (suc left) order object b has = ends_keep P is left order object (first_ended (queue order b object) b) (first_keeps P is (queue order b object) b has)
 
 -- the ends of all waits for an object that is deleted
-pub end_waits_keeps : (P : Base → Type 0) → IsBaseProof P → (order : Order) (object : ℕ) (b : Base) → P b → P (end_waits order object b)
+pub end_waits_keeps : (P : Base → Type 0) → IsStillProof P → (order : Order) (object : ℕ) (b : Base) → P b → P (end_waits order object b)
 end_waits_keeps P is order object b has = ends_keep P is (length (queue order b object)) order object b has
 
 -- ---- two words together

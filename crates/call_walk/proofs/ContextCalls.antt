@@ -13,7 +13,7 @@ use Rattle.kernel_model.specs.Tasks.Marks.{allows}
 use Rattle.context_model.specs.Contexts.Tables.{Contexts, has_ssy}
 use Rattle.context_model.specs.Contexts.Calls as calls
 use Rattle.context_model.specs.Contexts.Calls.{ContextDone, context_call, context_checked, context_refused, flags_changed}
-use Rattle.call_walk.proofs.BaseMoves.{IsBaseProof}
+use Rattle.call_walk.proofs.BaseMoves.{IsStillProof}
 
 refused_keeps : (P : Base → Type 0) (error : Option Er) (b : Base) (c : Contexts) (effect : ContextDone) → P b → P effect.base → P (context_refused error b c effect).base
 refused_keeps P (Some error) b c effect has works = has
@@ -23,10 +23,10 @@ refused_keeps P None b c effect has works = works
 checked_keeps : (P : Base → Type 0) (checks : List Check) (b : Base) (c : Contexts) (effect : ContextDone) → P b → P effect.base → P (context_checked checks b c effect).base
 checked_keeps P checks b c effect has works = refused_keeps P (first_error checks) b c effect has works
 
-flags_keep : (P : Base → Type 0) → IsBaseProof P → (b : Base) (c : Contexts) (who : Who) (flags : Flags) → P b → P (flags_changed b c who flags).base
+flags_keep : (P : Base → Type 0) → IsStillProof P → (b : Base) (c : Contexts) (who : Who) (flags : Flags) → P b → P (flags_changed b c who flags).base
 flags_keep P is b c who flags has = checked_keeps P ((allows b.flags who NeedsTask otherwise er.Ctx) ∷ []) b c _ has (is.flagged b flags has)
 
-pub context_calls_keep : (P : Base → Type 0) → IsBaseProof P → (b : Base) (c : Contexts) (who : Who) (row : ContextCall) → P b → P (context_call b c who row).base
+pub context_calls_keep : (P : Base → Type 0) → IsStillProof P → (b : Base) (c : Contexts) (who : Who) (row : ContextCall) → P b → P (context_call b c who row).base
 unfolding context_call calls.define_handler calls.disable_dispatch calls.enable_dispatch calls.disable_interrupts calls.enable_interrupts calls.refer_system calls.define_service calls.refer_service calls.enter_service
 context_calls_keep P is b c who (call.DefInt number body) has = checked_keeps P ((within 1 255 number otherwise er.Par) ∷ []) b c _ has has
 context_calls_keep P is b c who call.DisDsp has = flags_keep P is b c who (record b.flags { dispatch_off = true }) has

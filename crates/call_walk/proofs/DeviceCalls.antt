@@ -32,7 +32,7 @@ use Rattle.device_model.specs.Devices.Servings.{is_with_driver}
 use Rattle.device_model.specs.Devices.Suspension as suspension
 use Rattle.device_model.specs.Devices.Calls as calls
 use Rattle.device_model.specs.Devices.Calls.{DevDone}
-use Rattle.call_walk.proofs.BaseMoves.{IsBaseProof}
+use Rattle.call_walk.proofs.BaseMoves.{IsStillProof}
 use Rattle.call_walk.proofs.MailCalls.{Sent, post_keeps}
 
 refused_keeps : (P : Base → Type 0) (error : Option Er) (p : DevParts) (effect : DevDone) → P p.base → P effect.parts.base → P (calls.refused_with error p effect).parts.base
@@ -51,7 +51,7 @@ either_parts : (P : Base → Type 0) (test : Bool) (one other : DevParts) → P 
 either_parts P true one other first second = first
 either_parts P false one other first second = second
 
-wait_keeps : (P : Base → Type 0) → IsBaseProof P → (p : DevParts) (t object : ℕ) (timeout : ℤ) (dv : Devices) → P p.base → P (calls.waits_or_ends p t object timeout dv).parts.base
+wait_keeps : (P : Base → Type 0) → IsStillProof P → (p : DevParts) (t object : ℕ) (timeout : ℤ) (dv : Devices) → P p.base → P (calls.waits_or_ends p t object timeout dv).parts.base
 wait_keeps P is p t object timeout dv has =
     either_done P (int_eq timeout (pos 0)) (record { parts = p; outcome = failed er.TmOut }) (calls.waits p t object timeout dv) has (is.waits p.base t object Fifo timeout has)
 
@@ -75,20 +75,20 @@ pub accept_keeps : (P : Base → Type 0) (p : DevParts) (d id : ℕ) (transfer :
 unfolding requests.accept
 accept_keeps P p d id transfer has = from_base P transfer.start p d id transfer has
 
-requested_keeps : (P : Base → Type 0) → IsBaseProof P → (p : DevParts) (t d : ℕ) (transfer : Transfer) (timeout : ℤ) → P p.base → P (calls.requested p t d transfer timeout).parts.base
+requested_keeps : (P : Base → Type 0) → IsStillProof P → (p : DevParts) (t d : ℕ) (transfer : Transfer) (timeout : ℤ) → P p.base → P (calls.requested p t d transfer timeout).parts.base
 requested_keeps P is p t d transfer timeout has =
     either_done P (requests.has_place p.table d) (calls.answers (requests.accept p d (free_request p.table) transfer) (pos (free_request p.table)))
     (calls.waits_or_ends p t (requests.acceptance_object d) timeout (with_wish p.table t (wish.Acceptance transfer false)))
     (accept_keeps P p d (free_request p.table) transfer has)
     (wait_keeps P is p t (requests.acceptance_object d) timeout (with_wish p.table t (wish.Acceptance transfer false)) has)
 
-request_keeps : (P : Base → Type 0) → IsBaseProof P → (p : DevParts) (who : Who) (write : Bool) (descriptor start address size timeout : ℤ) → P p.base → P (calls.request p who write descriptor start address size timeout).parts.base
+request_keeps : (P : Base → Type 0) → IsStillProof P → (p : DevParts) (who : Who) (write : Bool) (descriptor start address size timeout : ℤ) → P p.base → P (calls.request p who write descriptor start address size timeout).parts.base
 unfolding calls.request
 request_keeps P is p who write descriptor start address size timeout has =
     checked_keeps P (calls.request_checks p who descriptor write start address size timeout []) p _ has
     (requested_keeps P is p (caller who) (calls.device_of p.table (natural descriptor)) (calls.transfer_of descriptor write start address size) timeout has)
 
-stayed_keeps : (P : Base → Type 0) → IsBaseProof P → (p : DevParts) (t d : ℕ) (transfer : Transfer) (start : Option ℕ) → P p.base → P (calls.stayed p t d transfer start).parts.base
+stayed_keeps : (P : Base → Type 0) → IsStillProof P → (p : DevParts) (t d : ℕ) (transfer : Transfer) (start : Option ℕ) → P p.base → P (calls.stayed p t d transfer start).parts.base
 stayed_keeps P is p t d transfer (Some start) has = is.waits p.base t (requests.acceptance_object d) Fifo (negsuc 0) has
 stayed_keeps P is p t d transfer None has =
     let id : ℕ = free_request p.table in
@@ -96,7 +96,7 @@ stayed_keeps P is p t d transfer None has =
     (accept_keeps P p d id transfer has)
     (is.waits p.base t (requests.acceptance_object d) Fifo (negsuc 0) has)
 
-whole_keeps : (P : Base → Type 0) → IsBaseProof P → (p : DevParts) (who : Who) (write : Bool) (descriptor start address size : ℤ) → P p.base → P (calls.request_whole p who write descriptor start address size).parts.base
+whole_keeps : (P : Base → Type 0) → IsStillProof P → (p : DevParts) (who : Who) (write : Bool) (descriptor start address size : ℤ) → P p.base → P (calls.request_whole p who write descriptor start address size).parts.base
 unfolding calls.request_whole
 whole_keeps P is p who write descriptor start address size has =
     checked_keeps P (calls.request_checks p who descriptor write start address size (negsuc 0) ((not (calls.any_waits p (natural descriptor)) otherwise er.Obj) ∷ [])) p _ has
@@ -104,11 +104,11 @@ whole_keeps P is p who write descriptor start address size has =
 
 -- ---- endings
 
-waited_keeps : (P : Base → Type 0) → IsBaseProof P → (p : DevParts) (t dd : ℕ) (timeout : ℤ) (asked_for : Wish) (picked : Option ℕ) → P p.base → P (calls.ending_waited p t dd timeout asked_for picked).parts.base
+waited_keeps : (P : Base → Type 0) → IsStillProof P → (p : DevParts) (t dd : ℕ) (timeout : ℤ) (asked_for : Wish) (picked : Option ℕ) → P p.base → P (calls.ending_waited p t dd timeout asked_for picked).parts.base
 waited_keeps P is p t dd timeout asked_for (Some id) has = has
 waited_keeps P is p t dd timeout asked_for None has = wait_keeps P is p t (requests.ending_object dd) timeout (with_wish p.table t asked_for) has
 
-wait_ending_keeps : (P : Base → Type 0) → IsBaseProof P → (p : DevParts) (who : Who) (descriptor id timeout : ℤ) → P p.base → P (calls.wait_ending p who descriptor id timeout).parts.base
+wait_ending_keeps : (P : Base → Type 0) → IsStillProof P → (p : DevParts) (who : Who) (descriptor id timeout : ℤ) → P p.base → P (calls.wait_ending p who descriptor id timeout).parts.base
 unfolding calls.wait_ending
 wait_ending_keeps P is p who descriptor id timeout has =
     let asked_for : Wish = calls.ending_wish p.table (natural id) in
@@ -117,15 +117,15 @@ wait_ending_keeps P is p who descriptor id timeout has =
 
 -- ---- closing
 
-aborted_keeps : (P : Base → Type 0) → IsBaseProof P → (ids : List ℕ) (b : Base) → P b → P (fold calls.aborted b ids)
+aborted_keeps : (P : Base → Type 0) → IsStillProof P → (ids : List ℕ) (b : Base) → P b → P (fold calls.aborted b ids)
 aborted_keeps P is [] b has = has
 aborted_keeps P is (t ∷ ids) b has = aborted_keeps P is ids (calls.aborted b t) (is.released b t (plain (code_of er.Abort)) has)
 
-closed_keeps : (P : Base → Type 0) → IsBaseProof P → (begun : Bool) (p : DevParts) (t dd : ℕ) → P p.base → P (calls.closed_or_begun begun p t dd).parts.base
+closed_keeps : (P : Base → Type 0) → IsStillProof P → (begun : Bool) (p : DevParts) (t dd : ℕ) → P p.base → P (calls.closed_or_begun begun p t dd).parts.base
 closed_keeps P is false p t dd has = has
 closed_keeps P is true p t dd has = is.waits p.base t (close_object dd) Fifo (negsuc 0) has
 
-close_keeps : (P : Base → Type 0) → IsBaseProof P → (p : DevParts) (who : Who) (descriptor : ℤ) → P p.base → P (calls.close_device p who descriptor).parts.base
+close_keeps : (P : Base → Type 0) → IsStillProof P → (p : DevParts) (who : Who) (descriptor : ℤ) → P p.base → P (calls.close_device p who descriptor).parts.base
 unfolding calls.close_device
 close_keeps P is p who descriptor has =
     let dd : ℕ = natural descriptor in
@@ -138,7 +138,7 @@ after_post_keeps : (P : Base → Type 0) (p : DevParts) (sent : Option MailParts
 after_post_keeps P p None has sent = has
 after_post_keeps P p (Some parts) has sent = sent
 
-sent_keeps : (P : Base → Type 0) → IsBaseProof P → (type : ℕ) (ids : List ℕ) (p : DevParts) → P p.base → P (fold (suspension.event_sent type) p ids).base
+sent_keeps : (P : Base → Type 0) → IsStillProof P → (type : ℕ) (ids : List ℕ) (p : DevParts) → P p.base → P (fold (suspension.event_sent type) p ids).base
 sent_keeps P is type [] p has = has
 sent_keeps P is type (d ∷ ids) p has =
     let id : ℕ = buffer_of p.table d in
@@ -146,20 +146,20 @@ sent_keeps P is type (d ∷ ids) p has =
     sent_keeps P is type ids (suspension.event_sent type p d) (after_post_keeps P p (post (suspension.mail_parts p) id bytes) has (post_keeps P is (suspension.mail_parts p) id bytes has))
 
 -- the events of a suspension
-pub events_keep : (P : Base → Type 0) → IsBaseProof P → (p : DevParts) → P p.base → P (suspension.events_sent p).base
+pub events_keep : (P : Base → Type 0) → IsStillProof P → (p : DevParts) → P p.base → P (suspension.events_sent p).base
 unfolding suspension.events_sent
 events_keep P is p has = sent_keeps P is 2 (device_ids p.table) _ (sent_keeps P is 1 (reverse (device_ids p.table)) p has)
 
-suspended_keeps : (P : Base → Type 0) → IsBaseProof P → (given : Bool) (p : DevParts) (t : ℕ) → P p.base → P (calls.suspended given p t).parts.base
+suspended_keeps : (P : Base → Type 0) → IsStillProof P → (given : Bool) (p : DevParts) (t : ℕ) → P p.base → P (calls.suspended given p t).parts.base
 suspended_keeps P is false p t has = events_keep P is p has
 suspended_keeps P is true p t has = is.waits p.base t suspension_object Fifo (negsuc 0) has
 
-effect_keeps : (P : Base → Type 0) → IsBaseProof P → (p : DevParts) (t : ℕ) (mode : SuspendMode) → P p.base → P (calls.suspend_effect p t mode).parts.base
+effect_keeps : (P : Base → Type 0) → IsStillProof P → (p : DevParts) (t : ℕ) (mode : SuspendMode) → P p.base → P (calls.suspend_effect p t mode).parts.base
 effect_keeps P is p t mode has =
     either_done P mode.td_suspend _ _ (suspended_keeps P is (any_given p.table) p t has)
     (either_done P mode.td_dissus _ _ has (either_done P mode.td_enasus _ _ has has))
 
-suspend_keeps : (P : Base → Type 0) → IsBaseProof P → (p : DevParts) (who : Who) (mode : SuspendMode) → P p.base → P (calls.suspend_devices p who mode).parts.base
+suspend_keeps : (P : Base → Type 0) → IsStillProof P → (p : DevParts) (who : Who) (mode : SuspendMode) → P p.base → P (calls.suspend_devices p who mode).parts.base
 unfolding calls.suspend_devices
 suspend_keeps P is p who mode has = checked_keeps P (calls.suspend_checks p who mode) p _ has (effect_keeps P is p (caller who) mode has)
 
@@ -173,7 +173,7 @@ refer_keeps : (P : Base → Type 0) (p : DevParts) (d : ℕ) → P p.base → P 
 unfolding calls.refer_device
 refer_keeps P p d has = checked_keeps P ((is_some (link_at p.table d) otherwise er.NoExs) ∷ []) p _ has has
 
-pub device_calls_keep : (P : Base → Type 0) → IsBaseProof P → (p : DevParts) (who : Who) (c : DeviceCall) → P p.base → P (calls.device_call p who c).parts.base
+pub device_calls_keep : (P : Base → Type 0) → IsStillProof P → (p : DevParts) (who : Who) (c : DeviceCall) → P p.base → P (calls.device_call p who c).parts.base
 unfolding calls.device_call
 device_calls_keep P is p who (call.OpnDev device mode) has = open_keeps P p device mode has
 device_calls_keep P is p who (call.ReaDev descriptor start address size timeout) has = request_keeps P is p who false descriptor start address size timeout has

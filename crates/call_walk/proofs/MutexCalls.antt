@@ -20,7 +20,7 @@ use Rattle.object_model.specs.Mutexes.Tables.{Mutexes, has_mutex, locked, mutex_
 use Rattle.object_model.specs.Mutexes.Priority.{current_of, refresh, resettle}
 use Rattle.object_model.specs.Mutexes.Calls as calls
 use Rattle.object_model.specs.Mutexes.Calls.{MutexDone, mutex_call, mutex_checked, mutex_waits_ended, refused_with, table_changed, waited_for_mutex, waits_or_ends}
-use Rattle.call_walk.proofs.BaseMoves.{IsBaseProof, either_base, end_waits_keeps}
+use Rattle.call_walk.proofs.BaseMoves.{IsStillProof, either_base, end_waits_keeps}
 
 refused_keeps : (P : Base → Type 0) (error : Option Er) (b : Base) (m : Mutexes) (effect : MutexDone) → P b → P effect.base → P (refused_with error b m effect).base
 refused_keeps P (Some error) b m effect has works = has
@@ -34,19 +34,19 @@ either_done : (P : Base → Type 0) (test : Bool) (one other : MutexDone) → P 
 either_done P true one other first second = first
 either_done P false one other first second = second
 
-ended_keeps : (P : Base → Type 0) → IsBaseProof P → (b : Base) (id : ℕ) (slot : Option Mutex) → P b → P (mutex_waits_ended b id slot)
+ended_keeps : (P : Base → Type 0) → IsStillProof P → (b : Base) (id : ℕ) (slot : Option Mutex) → P b → P (mutex_waits_ended b id slot)
 ended_keeps P is b id None has = has
 ended_keeps P is b id (Some k) has = end_waits_keeps P is k.order (mutex_object id) b has
 
-wait_keeps : (P : Base → Type 0) → IsBaseProof P → (b : Base) (m : Mutexes) (t id : ℕ) (order : Order) (timeout : ℤ) → P b → P (waits_or_ends b m t id order timeout).base
+wait_keeps : (P : Base → Type 0) → IsStillProof P → (b : Base) (m : Mutexes) (t id : ℕ) (order : Order) (timeout : ℤ) → P b → P (waits_or_ends b m t id order timeout).base
 wait_keeps P is b m t id order timeout has =
     either_done P (int_eq timeout (pos 0)) (record { base = b; table = m; outcome = failed er.TmOut }) (record { base = make_wait b t (mutex_object id) order timeout; table = m; outcome = outcomes.Blocked }) has (is.waits b t (mutex_object id) order timeout has)
 
-waited_keeps : (P : Base → Type 0) → IsBaseProof P → (b : Base) (m : Mutexes) (t id : ℕ) (timeout : ℤ) (slot : Option Mutex) → P b → P (waited_for_mutex b m t id timeout slot).base
+waited_keeps : (P : Base → Type 0) → IsStillProof P → (b : Base) (m : Mutexes) (t id : ℕ) (timeout : ℤ) (slot : Option Mutex) → P b → P (waited_for_mutex b m t id timeout slot).base
 waited_keeps P is b m t id timeout None has = has
 waited_keeps P is b m t id timeout (Some k) has = either_done P (k.owner == 0) (table_changed b (locked m id k t) (pos 0)) (waits_or_ends b m t id k.order timeout) has (wait_keeps P is b m t id k.order timeout has)
 
-pub mutex_calls_keep : (P : Base → Type 0) → IsBaseProof P → (b : Base) (m : Mutexes) (who : Who) (c : MutexCall) → P b → P (mutex_call b m who c).base
+pub mutex_calls_keep : (P : Base → Type 0) → IsStillProof P → (b : Base) (m : Mutexes) (who : Who) (c : MutexCall) → P b → P (mutex_call b m who c).base
 unfolding mutex_call calls.create_mutex calls.lock_mutex calls.unlock_mutex calls.refer_mutex calls.delete_mutex
 mutex_calls_keep P is b m who (call.CreMtx attributes ceiling) has = checked_keeps P (calls.create_checks m attributes ceiling) b m _ has has
 mutex_calls_keep P is b m who (call.LocMtx id timeout) has = checked_keeps P (calls.lock_checks b m who id timeout) b m _ has (waited_keeps P is b m (caller who) (natural id) timeout (mutex_at m (natural id)) has)
@@ -58,14 +58,14 @@ mutex_calls_keep P is b m who (call.DelMtx id) has =
 -- ---- priorities
 
 -- a priority that isn't that of its definition is taken over
-pub refresh_keeps : (P : Base → Type 0) → IsBaseProof P → (m : Mutexes) (b : Base) (t : ℕ) → P b → P (refresh m b t)
+pub refresh_keeps : (P : Base → Type 0) → IsStillProof P → (m : Mutexes) (b : Base) (t : ℕ) → P b → P (refresh m b t)
 refresh_keeps P is m b t has = either_base P (current b t == current_of b m t) b (set_current b t (current_of b m t)) has (is.refreshed b t (current_of b m t) has)
 
-each_keeps : (P : Base → Type 0) → IsBaseProof P → (m : Mutexes) (ids : List ℕ) (b : Base) → P b → P (fold (refresh m) b ids)
+each_keeps : (P : Base → Type 0) → IsStillProof P → (m : Mutexes) (ids : List ℕ) (b : Base) → P b → P (fold (refresh m) b ids)
 each_keeps P is m [] b has = has
 each_keeps P is m (t ∷ ids) b has = each_keeps P is m ids (refresh m b t) (refresh_keeps P is m b t has)
 
 -- so are all of them
-pub resettle_keeps : (P : Base → Type 0) → IsBaseProof P → (b : Base) (m : Mutexes) → P b → P (resettle b m)
+pub resettle_keeps : (P : Base → Type 0) → IsStillProof P → (b : Base) (m : Mutexes) → P b → P (resettle b m)
 unfolding resettle
 resettle_keeps P is b m has = each_keeps P is m (taken_from 1 (drop 1 b.tasks)) b has

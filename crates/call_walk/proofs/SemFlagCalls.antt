@@ -17,7 +17,7 @@ use Rattle.kernel_model.specs.SemFlags.Tables.{SemFlags, flag_at, flag_object, h
 use Rattle.kernel_model.specs.SemFlags.Calls as calls
 use Rattle.kernel_model.specs.SemFlags.Calls.{SemFlagDone, flag_waits_ended, has_flag, has_sem, object_checks, sem_flag_call, sem_flag_checked, sem_waits_ended, serves_at_once, waited_for_flag, waited_for_sem, waits_or_ends}
 use Rattle.call_lemmas.proofs.Checked.{sem_flag_cases}
-use Rattle.call_walk.proofs.BaseMoves.{IsBaseProof, end_waits_keeps}
+use Rattle.call_walk.proofs.BaseMoves.{IsStillProof, end_waits_keeps}
 
 -- a call is refused and leaves the base, or has its effect
 checked_keeps : (P : Base → Type 0) (checks : List Check) (b : Base) (s : SemFlags) (effect : SemFlagDone) → P b → P effect.base → P (sem_flag_checked checks b s effect).base
@@ -29,31 +29,31 @@ either_done P false one other first second = second
 
 -- ---- deleting
 
-sem_ended_keeps : (P : Base → Type 0) → IsBaseProof P → (b : Base) (id : ℕ) (slot : Option Semaphore) → P b → P (sem_waits_ended b id slot)
+sem_ended_keeps : (P : Base → Type 0) → IsStillProof P → (b : Base) (id : ℕ) (slot : Option Semaphore) → P b → P (sem_waits_ended b id slot)
 sem_ended_keeps P is b id None has = has
 sem_ended_keeps P is b id (Some k) has = end_waits_keeps P is k.order (sem_object id) b has
 
-flag_ended_keeps : (P : Base → Type 0) → IsBaseProof P → (b : Base) (id : ℕ) (slot : Option EventFlag) → P b → P (flag_waits_ended b id slot)
+flag_ended_keeps : (P : Base → Type 0) → IsStillProof P → (b : Base) (id : ℕ) (slot : Option EventFlag) → P b → P (flag_waits_ended b id slot)
 flag_ended_keeps P is b id None has = has
 flag_ended_keeps P is b id (Some k) has = end_waits_keeps P is k.order (flag_object id) b has
 
 -- ---- waiting
 
-wait_keeps : (P : Base → Type 0) → IsBaseProof P → (b : Base) (s : SemFlags) (t object : ℕ) (order : Order) (timeout : ℤ) (asked : SemFlags) → P b → P (waits_or_ends b s t object order timeout asked).base
+wait_keeps : (P : Base → Type 0) → IsStillProof P → (b : Base) (s : SemFlags) (t object : ℕ) (order : Order) (timeout : ℤ) (asked : SemFlags) → P b → P (waits_or_ends b s t object order timeout asked).base
 wait_keeps P is b s t object order timeout asked has =
     either_done P (int_eq timeout (pos 0)) (record { base = b; table = s; outcome = failed er.TmOut }) (record { base = make_wait b t object order timeout; table = asked; outcome = outcomes.Blocked }) has (is.waits b t object order timeout has)
 
-sem_keeps : (P : Base → Type 0) → IsBaseProof P → (b : Base) (s : SemFlags) (t id n : ℕ) (timeout : ℤ) (slot : Option Semaphore) → P b → P (waited_for_sem b s t id n timeout slot).base
+sem_keeps : (P : Base → Type 0) → IsStillProof P → (b : Base) (s : SemFlags) (t id n : ℕ) (timeout : ℤ) (slot : Option Semaphore) → P b → P (waited_for_sem b s t id n timeout slot).base
 sem_keeps P is b s t id n timeout None has = has
 sem_keeps P is b s t id n timeout (Some k) has = either_done P (serves_at_once b k id t n) _ _ has (wait_keeps P is b s t (sem_object id) k.order timeout _ has)
 
-flag_keeps : (P : Base → Type 0) → IsBaseProof P → (b : Base) (s : SemFlags) (t id : ℕ) (wish : FlagWish) (timeout : ℤ) (slot : Option EventFlag) → P b → P (waited_for_flag b s t id wish timeout slot).base
+flag_keeps : (P : Base → Type 0) → IsStillProof P → (b : Base) (s : SemFlags) (t id : ℕ) (wish : FlagWish) (timeout : ℤ) (slot : Option EventFlag) → P b → P (waited_for_flag b s t id wish timeout slot).base
 flag_keeps P is b s t id wish timeout None has = has
 flag_keeps P is b s t id wish timeout (Some k) has = either_done P (has_bits k.pattern wish) _ _ has (wait_keeps P is b s t (flag_object id) k.order timeout _ has)
 
 -- ---- all
 
-pub sem_flag_calls_keep : (P : Base → Type 0) → IsBaseProof P → (b : Base) (s : SemFlags) (who : Who) (c : SemFlagCall) → P b → P (sem_flag_call b s who c).base
+pub sem_flag_calls_keep : (P : Base → Type 0) → IsStillProof P → (b : Base) (s : SemFlags) (who : Who) (c : SemFlagCall) → P b → P (sem_flag_call b s who c).base
 unfolding sem_flag_call calls.create_sem calls.create_flag calls.delete_sem calls.delete_flag calls.signal_sem calls.set_flag calls.clear_flag calls.refer_sem calls.refer_flag calls.wait_sem calls.wait_flag
 sem_flag_calls_keep P is b s who (call.CreSem attributes count most) has = checked_keeps P (calls.create_sem_checks s attributes count most) b s _ has has
 sem_flag_calls_keep P is b s who (call.SigSem id count) has = checked_keeps P (calls.signal_checks s id count) b s _ has has

@@ -2,6 +2,7 @@
 #![tactic(auto)]
 
 pub mod laws;
+pub mod phases;
 pub mod places;
 pub mod services;
 pub mod ticks;

@@ -12,7 +12,7 @@ use Rattle.machine_model.specs.States.Objects.{Parts, dev_parts, mail_parts, poo
 use Rattle.machine_model.specs.States.State.{parts_of, state_start}
 use Rattle.machine_model.specs.Events.Settle.{handed}
 use Rattle.device_lemmas.proofs.Walk as devices
-use Rattle.call_walk.proofs.BaseMoves.{IsBaseProof}
+use Rattle.call_walk.proofs.BaseMoves.{IsBaseProof, IsStillProof, still}
 use Rattle.call_walk.proofs.ContextCalls.{context_calls_keep}
 use Rattle.call_walk.proofs.DeviceCalls.{arrive_keeps, device_calls_keep}
 use Rattle.call_walk.proofs.MailCalls.{mail_calls_keep}
@@ -34,7 +34,8 @@ pub record BaseHas (P : Base → Type 0) (p : Parts) : Type 0 where
   pub base : P p.base
   pub few : FewDevices p
 
-survives : (P : Base → Type 0) → IsBaseProof P → (may : ℕ → Type 0) → Survives may P
+-- what these moves keep servings keep
+pub survives : (P : Base → Type 0) → IsStillProof P → (may : ℕ → Type 0) → Survives may P
 survives P moves may = record {
   released = λ b t object answer above waits has. moves.released b t answer has;
   moved = λ b t d dd least most moved waits has. moves.moved b t _ _ has;
@@ -52,22 +53,22 @@ few_arrived p e q (Some r) is few = let same : r ≡ q = cc is in subst (λ (it 
 pub base_kept : (P : Base → Type 0) → IsBaseProof P → IsKept (BaseHas P)
 base_kept P moves = record {
   few = λ p has. has.few;
-  task_calls = λ p who c has. record { base = task_calls_keep P moves p.base p.objects.mutexes who c has.base; few = has.few };
-  sem_flag_calls = λ p who c has. record { base = sem_flag_calls_keep P moves p.base p.objects.sem_flags who c has.base; few = has.few };
-  mutex_calls = λ p who c has. record { base = mutex_calls_keep P moves p.base p.objects.mutexes who c has.base; few = has.few };
-  mail_calls = λ p who c has. record { base = mail_calls_keep P moves (mail_parts p) who c has.base; few = has.few };
-  pool_calls = λ p who c has. record { base = pool_calls_keep P moves (pool_parts p) who c has.base; few = has.few };
+  task_calls = λ p who c has. record { base = task_calls_keep P (still P moves) p.base p.objects.mutexes who c has.base; few = has.few };
+  sem_flag_calls = λ p who c has. record { base = sem_flag_calls_keep P (still P moves) p.base p.objects.sem_flags who c has.base; few = has.few };
+  mutex_calls = λ p who c has. record { base = mutex_calls_keep P (still P moves) p.base p.objects.mutexes who c has.base; few = has.few };
+  mail_calls = λ p who c has. record { base = mail_calls_keep P (still P moves) (mail_parts p) who c has.base; few = has.few };
+  pool_calls = λ p who c has. record { base = pool_calls_keep P (still P moves) (pool_parts p) who c has.base; few = has.few };
   time_calls = λ p c has. record { base = time_calls_keep P moves p.base p.objects.clocks c has.base; few = has.few };
-  context_calls = λ p who c has. record { base = context_calls_keep P moves p.base p.objects.contexts who c has.base; few = has.few };
+  context_calls = λ p who c has. record { base = context_calls_keep P (still P moves) p.base p.objects.contexts who c has.base; few = has.few };
   device_calls = λ p who c has. record {
-    base = device_calls_keep P moves (dev_parts p) who c has.base;
+    base = device_calls_keep P (still P moves) (dev_parts p) who c has.base;
     few = devices.calls_keep (λ dv. length dv.links ≤ 9) few_moves (dev_parts p) who c has.few;
   };
   left = λ p t all has. record { base = has.base; few = has.few };
   freed = λ p t m is has. record { base = has.base; few = has.few };
   deleted = λ p t has. record { base = moves.deleted p.base t has.base; few = has.few };
   refreshed = λ p t priority has. record { base = moves.refreshed p.base t priority has.base; few = has.few };
-  served = λ p q few is has. record { base = (serving p q few is).ends.keeps P (survives P moves (IsWished p.objects.devices)) has.base; few = few_served p q few is };
+  served = λ p q few is has. record { base = (serving p q few is).ends.keeps P (survives P (still P moves) (IsWished p.objects.devices)) has.base; few = few_served p q few is };
   handed = has_handed P;
   handed_first = λ p has. record { base = has.base; few = devices.hand_first_keeps (λ dv. length dv.links ≤ 9) few_moves p.objects.devices has.few };
   arrived = λ p e q is has. record {

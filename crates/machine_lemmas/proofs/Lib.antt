@@ -23,6 +23,7 @@ pub mod TickReached
 pub mod TickClocks
 pub mod TickWalk
 pub mod TickTakes
+pub mod TickPhases
 pub mod TickLimits
 pub mod TickEnds
 pub mod TickAhead

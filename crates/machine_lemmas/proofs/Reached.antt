@@ -16,7 +16,7 @@ use Rattle.machine_model.specs.Events.Arrivals.{after_arrival, arrived}
 use Rattle.machine_model.specs.Runs.Step.{any_unfinished, counted, ended_or_went, handed_if, has_event, is_quiet, needed, needed_or, needed_sync, needs_if, step, step_if, with_first_handed, worked}
 use Rattle.machine_model.specs.Runs.Trace.{start}
 use Rattle.machine_model.specs.Runs.Reached.{Move, Steps, Arrives, after_move, after_offer, after_pace, state_after}
-use Rattle.machine_lemmas.proofs.Walk.{Has, IsKept, kept_followed, kept_worked}
+use Rattle.machine_lemmas.proofs.Walk.{Has, IsKept, IsSteady, kept_followed, kept_worked, of_kept}
 
 -- ---- what holds of a state, of it after what is done at a step, and of it once a request was handed out in sync mode, holds
 -- after a step
@@ -64,7 +64,7 @@ unfolding step
 step_is Q script mode budget st has hands works = quiet_is Q (is_quiet st) script mode budget st has hands works
 
 -- what holds of a state, and after a step is done on it, holds after a step, also where nothing is done
-pub step_has : (P : Parts → Type 0) → IsKept P → (script : Script) (mode : Mode) (budget : ℕ) (st : State) → Has P st → Has P (worked script mode (st.steps + 1) st).state → Has P (after_pace st (step script mode budget st))
+pub step_has : (P : Parts → Type 0) → IsSteady P → (script : Script) (mode : Mode) (budget : ℕ) (st : State) → Has P st → Has P (worked script mode (st.steps + 1) st).state → Has P (after_pace st (step script mode budget st))
 step_has P kept script mode budget st has works = step_is (Has P) script mode budget st has (λ sync. kept.handed_first (parts_of st) has) works
 
 -- ---- one ending
@@ -82,7 +82,7 @@ offer_has P script mode st e has comes = offered P script mode st e (arrive (dev
 
 -- ---- all moves
 
-pub kept_move : (P : Parts → Type 0) → IsKept P → (script : Script) (mode : Mode) (budget : ℕ) (st : State) (move : Move) → Has P st → Has P (after_move script mode budget st move)
+pub kept_move : (P : Parts → Type 0) → IsSteady P → (script : Script) (mode : Mode) (budget : ℕ) (st : State) (move : Move) → Has P st → Has P (after_move script mode budget st move)
 kept_move P kept script mode budget st Steps has = step_has P kept script mode budget st has (kept_worked P kept script mode (st.steps + 1) st has)
 kept_move P kept script mode budget st (Arrives e) has =
     offer_has P script mode st e has
@@ -98,7 +98,11 @@ unfolding start dispatched
 start_has P turns script has = turned_start P turns (delays (state_start script) || is_current (chosen (state_start script).base) (state_start script).base.cur) 0 (state_start script) has
 
 -- what every event keeps holds in every state that a machine comes to
-pub reached_has : (P : Parts → Type 0) → IsKept P → (script : Script) (mode : Mode) (budget : ℕ) (moves : List Move) → Has P (state_start script) → Has P (state_after script mode budget moves)
+pub reached_steady : (P : Parts → Type 0) → IsSteady P → (script : Script) (mode : Mode) (budget : ℕ) (moves : List Move) → Has P (state_start script) → Has P (state_after script mode budget moves)
 unfolding state_after
-reached_has P kept script mode budget [] has = start_has P kept.turned script has
-reached_has P kept script mode budget (move ∷ before) has = kept_move P kept script mode budget (state_after script mode budget before) move (reached_has P kept script mode budget before has)
+reached_steady P kept script mode budget [] has = start_has P kept.turned script has
+reached_steady P kept script mode budget (move ∷ before) has = kept_move P kept script mode budget (state_after script mode budget before) move (reached_steady P kept script mode budget before has)
+
+-- so does what survives each change
+pub reached_has : (P : Parts → Type 0) → IsKept P → (script : Script) (mode : Mode) (budget : ℕ) (moves : List Move) → Has P (state_start script) → Has P (state_after script mode budget moves)
+reached_has P kept script mode budget moves has = reached_steady P (of_kept P kept) script mode budget moves has

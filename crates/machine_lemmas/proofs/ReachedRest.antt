@@ -36,7 +36,7 @@ use Rattle.machine_lemmas.proofs.HandingServes.{handed_first_none}
 use Rattle.machine_lemmas.proofs.Reached.{reached_has, start_has, step_is}
 use Rattle.machine_lemmas.proofs.Rest.{HasSettled, followed_rest, turned_dispatched, turned_settled, turned_taken}
 use Rattle.machine_lemmas.proofs.Settling.{none_waiting}
-use Rattle.machine_lemmas.proofs.Walk.{kept_first}
+use Rattle.machine_lemmas.proofs.Walk.{kept_first, of_kept}
 
 -- ---- the start
 
@@ -121,7 +121,7 @@ pub worked_rest : (script : Script) (mode : Mode) (n : ℕ) (st : State) → Has
 unfolding worked
 worked_rest script mode n st slots =
     let now : State = made_pending script n st in
-    let first = kept_first HasSlots slots_are_kept script mode n st slots in
+    let first = kept_first HasSlots (of_kept HasSlots slots_are_kept) script mode n st slots in
     let room = first.base in
     followed_rest script mode n (done_turn script mode n now (turn_of now)).state first.few (omega (arith, room))
 

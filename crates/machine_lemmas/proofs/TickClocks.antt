@@ -76,14 +76,15 @@ serving_clocks p q is = subst (SameClocks p) is (object_clocks p)
 -- ---- every event leaves the periods
 
 -- what is kept, and of the clocks what calls on time keep
-abbrev Periodic : Parts → Type 0
+abbrev pub Periodic : Parts → Type 0
 Periodic p = HasSlots p × ArePeriodic p.objects.clocks
 
 handed_periodic : (mode : Mode) (p : Parts) → Periodic p → Periodic (handed mode p)
 handed_periodic modes.Sync p has = has
 handed_periodic modes.Free p has = (slots_are_kept.handed modes.Free p has.0, has.1)
 
-periods_are_kept : IsKept Periodic
+-- every change keeps the periods
+pub periods_are_kept : IsKept Periodic
 periods_are_kept = record {
   few = λ p has. has.0.few;
   task_calls = λ p who c has. (slots_are_kept.task_calls p who c has.0, has.1);
@@ -112,7 +113,8 @@ periods_are_kept = record {
   written = λ p memory has. (slots_are_kept.written p memory has.0, has.1);
 }
 
-start_periods : (script : Script) → IsRunnable script → Periodic (parts_of (state_start script))
+-- at the start they are so
+pub start_periods : (script : Script) → IsRunnable script → Periodic (parts_of (state_start script))
 unfolding state_start
 start_periods script runnable = (start_slots script runnable, start_periodic)
 

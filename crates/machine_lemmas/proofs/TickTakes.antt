@@ -17,7 +17,7 @@ use Rattle.context_model.specs.Clocks.Phases.{ArePeriodic}
 use Rattle.context_model.specs.Clocks.Tables.{Clocks, again, starts}
 use Rattle.context_laws.proofs.Later.{Survives, again_holds, order_survives}
 use Rattle.machine_model.specs.States.State.{State, parts_of}
-use Rattle.machine_model.specs.Events.Ticks.{due_done, fallen, limit_answer, tick, tick_state}
+use Rattle.machine_model.specs.Events.Ticks.{due_done, fallen, limit_answer, tick_state}
 use Rattle.machine_model.specs.Runs.Reached.{Move, state_after}
 use Rattle.call_walk.proofs.DueEvents.{time_order_kept}
 use Rattle.machine_lemmas.proofs.BaseKept.{BaseHas, base_kept}
@@ -188,9 +188,8 @@ tick_takes_all mode st few periods order =
 
 -- and the rest stays in order
 pub tick_keeps_order : (mode : Mode) (st : State) → FewDevices (parts_of st) → AreInTimeOrder st.base.events → AreInTimeOrder (tick_state mode st).base.events
-unfolding tick
 tick_keeps_order mode st few order =
-    (kept_tick (BaseHas (λ b. AreInTimeOrder b.events)) (base_kept (λ b. AreInTimeOrder b.events) time_order_kept) mode 0 st (record { base = order; few = few })).base
+    (kept_tick (BaseHas (λ b. AreInTimeOrder b.events)) (base_kept (λ b. AreInTimeOrder b.events) time_order_kept) mode st (record { base = order; few = few })).base
 
 -- so it is in every state that a machine comes to
 pub reached_takes_all : (script : Script) (mode : Mode) (budget : ℕ) (moves : List Move) → IsRunnable script →

@@ -57,7 +57,7 @@ use Rattle.machine_model.specs.Events.Settle.{freed_within, settle, with_freed}
 use Rattle.machine_model.specs.Events.Follow.{dispatched, follow_each, follow_release, followed, settled, turned, with_releases}
 use Rattle.machine_model.specs.Events.Bodies.{begun, body_returned, entered, handler_ended, noted, returned, undefined, with_start, withdrawn}
 use Rattle.machine_model.specs.Events.Calls.{answered, called, ended_by, family_call, views_of, without_holdings}
-use Rattle.machine_model.specs.Events.Ticks.{due_done, fallen, limit_answer, tick}
+use Rattle.machine_model.specs.Events.Ticks.{due_done, fallen, limit_answer, tick, tick_state}
 use Rattle.machine_model.specs.Events.Handlers.{due_begun, handler_begun, insert_once, interrupt_begun, requested, with_requests}
 use Rattle.machine_model.specs.Runs.Turns.{acted, done_turn, fell_in, ran, turn_of}
 use Rattle.machine_model.specs.Runs.Step.{is_paced, made_pending, worked}
@@ -102,9 +102,96 @@ pub record IsKept (P : Parts → Type 0) : Type 0 where
 abbrev pub Has : (Parts → Type 0) → State → Type 0
 Has P st = P (parts_of st)
 
+-- ---- ticks
+
+settled_in : (P : Parts → Type 0) → IsKept P → (mode : Mode) (p : Parts) → P p → P (settle mode p)
+settled_in P kept mode p has = settle_keeps P kept.refreshed kept.served kept.handed mode p (kept.few p has) has
+
+kept_fallen : (P : Parts → Type 0) → IsKept P → (mode : Mode) (st : State) (what : DueKind) → Has P st → Has P (fallen mode st what)
+unfolding fallen
+kept_fallen P kept mode st (dues.Wait t) has = settled_in P kept mode _ (kept.released (parts_of st) t (limit_answer st.base t) has)
+kept_fallen P kept mode st (dues.Cyclic id) has = kept.again (parts_of st) (dues.Cyclic id) has
+kept_fallen P kept mode st (dues.Alarm id) has = kept.again (parts_of st) (dues.Alarm id) has
+
+due_cases : (P : Parts → Type 0) (left_over : ℕ) (mode : Mode) (st : State) (what : Option DueKind) → Has P st → ((kind : DueKind) → Has P (due_done left_over mode (fallen mode (record st { base = take_due st.base }) kind))) →
+    Has P (elim what as (λ _. State) [ None ↦ st | Some kind ↦ due_done left_over mode (fallen mode (record st { base = take_due st.base }) kind) ])
+due_cases P left_over mode st None has later = has
+due_cases P left_over mode st (Some kind) has later = later kind
+
+kept_due : (P : Parts → Type 0) → IsKept P → (left_over : ℕ) (mode : Mode) (st : State) → Has P st → Has P (due_done left_over mode st)
+unfolding due_done
+kept_due P kept zero mode st has = has
+kept_due P kept (suc left_over) mode st has =
+    let rest : State = record st { base = take_due st.base } in
+    due_cases P left_over mode st (due_event st.base.time st.base.events) has
+    (λ what. kept_due P kept left_over mode (fallen mode rest what) (kept_fallen P kept mode rest what (kept.taken (parts_of st) has)))
+
+-- what survives all that is done in a tick survives the tick
+pub kept_tick : (P : Parts → Type 0) → IsKept P → (mode : Mode) (st : State) → Has P st → Has P (tick_state mode st)
+kept_tick P kept mode st has = kept_due P kept (length st.base.events) mode (record st { base = advance st.base }) (kept.advanced (parts_of st) has)
+
+-- what something has to survive to survive every event, where a tick is one: what survives all that is done in ticks does so,
+-- and also what only a whole tick keeps
+pub record IsSteady (P : Parts → Type 0) : Type 0 where
+  pub few : (p : Parts) → P p → FewDevices p
+  pub task_calls : (p : Parts) (who : Who) (c : TaskCall) → P p → P (record p { base = (task_call_beside p.base p.objects.mutexes who c).base })
+  pub sem_flag_calls : (p : Parts) (who : Who) (c : SemFlagCall) → P p →
+      P (record p { base = (sem_flag_call p.base p.objects.sem_flags who c).base; objects = record p.objects { sem_flags = (sem_flag_call p.base p.objects.sem_flags who c).table } })
+  pub mutex_calls : (p : Parts) (who : Who) (c : MutexCall) → P p →
+      P (record p { base = (mutex_call p.base p.objects.mutexes who c).base; objects = record p.objects { mutexes = (mutex_call p.base p.objects.mutexes who c).table } })
+  pub mail_calls : (p : Parts) (who : Who) (c : MailCall) → P p →
+      P (record { base = (mail_call (mail_parts p) who c).base; objects = record p.objects { mails = (mail_call (mail_parts p) who c).table }; memory = (mail_call (mail_parts p) who c).memory })
+  pub pool_calls : (p : Parts) (who : Who) (c : PoolCall) → P p →
+      P (record p { base = (pool_call (pool_parts p) who c).base; objects = record p.objects { pools = (pool_call (pool_parts p) who c).table } })
+  pub time_calls : (p : Parts) (c : TimeCall) → P p →
+      P (record p { base = (time_call p.base p.objects.clocks c).base; objects = record p.objects { clocks = (time_call p.base p.objects.clocks c).table } })
+  pub context_calls : (p : Parts) (who : Who) (c : ContextCall) → P p →
+      P (record p { base = (context_call p.base p.objects.contexts who c).base; objects = record p.objects { contexts = (context_call p.base p.objects.contexts who c).table } })
+  pub device_calls : (p : Parts) (who : Who) (c : DeviceCall) → P p → P (with_devices p (device_call (dev_parts p) who c).parts)
+  pub left : (p : Parts) (t : ℕ) (all : Bool) → P p → P (record p { objects = record p.objects { contexts = left p.objects.contexts t all } })
+  pub freed : (p : Parts) (t : ℕ) (m : Mutexes) → free_last p.base p.objects.mutexes t ≡ Some m → P p → P (with_freed p m)
+  pub deleted : (p : Parts) (t : ℕ) → P p → P (record p { base = delete p.base t })
+  pub refreshed : Refreshed P
+  pub served : Served P
+  pub handed : Handed P
+  pub handed_first : (p : Parts) → P p → P (record p { objects = record p.objects { devices = hand_first p.objects.devices } })
+  pub arrived : (p : Parts) (e : Ending) (q : DevParts) → arrive (dev_parts p) e ≡ Some q → P p → P (with_devices p q)
+  pub flagged : (p : Parts) (flags : Flags) → P p → P (record p { base = set_flags p.base flags })
+  pub turned : (p : Parts) (cur : Option ℕ) → P p → P (record p { base = record p.base { cur = cur } })
+  pub emptied : (p : Parts) → P p → P (record p { base = record p.base { released = [] } })
+  pub written : (p : Parts) (memory : List ℕ) → P p → P (record p { memory = memory })
+  pub ticks : (mode : Mode) (st : State) → P (parts_of st) → P (parts_of (tick_state mode st))
+
+-- what survives each change survives every event
+pub of_kept : (P : Parts → Type 0) → IsKept P → IsSteady P
+of_kept P kept = record {
+  few = kept.few;
+  task_calls = kept.task_calls;
+  sem_flag_calls = kept.sem_flag_calls;
+  mutex_calls = kept.mutex_calls;
+  mail_calls = kept.mail_calls;
+  pool_calls = kept.pool_calls;
+  time_calls = kept.time_calls;
+  context_calls = kept.context_calls;
+  device_calls = kept.device_calls;
+  left = kept.left;
+  freed = kept.freed;
+  deleted = kept.deleted;
+  refreshed = kept.refreshed;
+  served = kept.served;
+  handed = kept.handed;
+  handed_first = kept.handed_first;
+  arrived = kept.arrived;
+  flagged = kept.flagged;
+  turned = kept.turned;
+  emptied = kept.emptied;
+  written = kept.written;
+  ticks = kept_tick P kept;
+}
+
 -- ---- what follows an event
 
-pub kept_settled : (P : Parts → Type 0) → IsKept P → (mode : Mode) (p : Parts) → P p → P (settle mode p)
+pub kept_settled : (P : Parts → Type 0) → IsSteady P → (mode : Mode) (p : Parts) → P p → P (settle mode p)
 kept_settled P kept mode p has = settle_keeps P kept.refreshed kept.served kept.handed mode p (kept.few p has) has
 
 -- the lines and the frames of waits that ended say nothing of the parts
@@ -127,7 +214,7 @@ settled_keeps P turns empties script mode n st has =
     let after : Has P ended = follow_each_keeps P script n (record now { base = record now.base { released = [] } }) now.base.released (empties (parts_of now) has) in
     turned_keeps P _ n ended after (λ cur. turns (parts_of ended) cur after)
 
-pub kept_followed : (P : Parts → Type 0) → IsKept P → (script : Script) (mode : Mode) (n : ℕ) (st : State) → Has P st → Has P (followed script mode n st).state
+pub kept_followed : (P : Parts → Type 0) → IsSteady P → (script : Script) (mode : Mode) (n : ℕ) (st : State) → Has P st → Has P (followed script mode n st).state
 kept_followed P kept script mode n st has = settled_keeps P kept.turned kept.emptied script mode n st (kept_settled P kept mode (parts_of st) has)
 
 -- ---- calls
@@ -136,7 +223,7 @@ state_if : (P : State → Type 0) (test : Bool) (a b : State) → P a → P b �
 state_if P true a b first second = first
 state_if P false a b first second = second
 
-kept_begun : (P : Parts → Type 0) → IsKept P → (st : State) (t : ℕ) (c : TaskCall) (value : ℤ) → Has P st → Has P (begun st t c value)
+kept_begun : (P : Parts → Type 0) → IsSteady P → (st : State) (t : ℕ) (c : TaskCall) (value : ℤ) → Has P st → Has P (begun st t c value)
 kept_begun P kept st t (task.CreTsk attributes body priority stack) value has = state_if (Has P) (within 1 255 value) (record st { bodies = slice_set st.bodies (natural value) body }) st has has
 kept_begun P kept st t (task.StaTsk id code) value has =
     state_if (Has P) (int_eq value (pos 0)) (with_start st id code) st
@@ -161,19 +248,19 @@ undefined_has P st (context.DefSsy number body) has = has
 undefined_has P st (context.RefSsy number) has = has
 undefined_has P st (context.Svc number value) has = has
 
-kept_noted : (P : Parts → Type 0) → IsKept P → (st : State) (t : ℕ) (c : Call) (value : ℤ) → Has P st → Has P (noted st t c value)
+kept_noted : (P : Parts → Type 0) → IsSteady P → (st : State) (t : ℕ) (c : Call) (value : ℤ) → Has P st → Has P (noted st t c value)
 kept_noted P kept st t (calls.Task c) value has = kept_begun P kept st t c value has
 kept_noted P kept st t (calls.Time c) value has = state_if (Has P) (int_eq value (pos 0)) (withdrawn st c) st (withdrawn_has P st c has) has
 kept_noted P kept st t (calls.Context c) value has = state_if (Has P) (int_eq value (pos 0)) (undefined st c) st (undefined_has P st c has) has
 kept_noted P kept st t _ value has = has
 
-kept_answered : (P : Parts → Type 0) → IsKept P → (st : State) (t : ℕ) (c : Call) (outcome : Outcome) → Has P st → Has P (answered st t c outcome)
+kept_answered : (P : Parts → Type 0) → IsSteady P → (st : State) (t : ℕ) (c : Call) (outcome : Outcome) → Has P st → Has P (answered st t c outcome)
 unfolding answered entered
 kept_answered P kept st t c (outcomes.Returned result) has = kept_noted P kept (with_frame st t (give (frame_of st t) result)) t c result.value has
 kept_answered P kept st t c outcomes.Blocked has = has
 kept_answered P kept st t c (outcomes.Entered body) has = has
 
-kept_family : (P : Parts → Type 0) → IsKept P → (st : State) (t : ℕ) (c : Call) → Has P st → Has P (family_call st t c).state
+kept_family : (P : Parts → Type 0) → IsSteady P → (st : State) (t : ℕ) (c : Call) → Has P st → Has P (family_call st t c).state
 unfolding family_call
 kept_family P kept st t (calls.Task c) has = kept.task_calls (parts_of st) (who_of t) c has
 kept_family P kept st t (calls.SemFlag c) has = kept.sem_flag_calls (parts_of st) (who_of t) c has
@@ -192,18 +279,18 @@ freed_next : (P : Parts → Type 0) (left_over : ℕ) (mode : Mode) (t : ℕ) (p
 freed_next P left_over mode t p None has rest = has
 freed_next P left_over mode t p (Some m) has rest = rest m refl
 
-pub kept_freed : (P : Parts → Type 0) → IsKept P → (left_over : ℕ) (mode : Mode) (t : ℕ) (p : Parts) → P p → P (freed_within left_over mode t p)
+pub kept_freed : (P : Parts → Type 0) → IsSteady P → (left_over : ℕ) (mode : Mode) (t : ℕ) (p : Parts) → P p → P (freed_within left_over mode t p)
 unfolding freed_within
 kept_freed P kept zero mode t p has = has
 kept_freed P kept (suc left_over) mode t p has =
     freed_next P left_over mode t p (free_last p.base p.objects.mutexes t) has
     (λ m is. kept_freed P kept left_over mode t (settle mode (with_freed p m)) (kept_settled P kept mode (with_freed p m) (kept.freed p t m is has)))
 
-kept_holdings : (P : Parts → Type 0) → IsKept P → (mode : Mode) (st : State) (t : ℕ) → Has P st → Has P (without_holdings mode st t)
+kept_holdings : (P : Parts → Type 0) → IsSteady P → (mode : Mode) (st : State) (t : ℕ) → Has P st → Has P (without_holdings mode st t)
 kept_holdings P kept mode st zero has = has
 kept_holdings P kept mode st (suc t) has = kept_freed P kept 64 mode (suc t) _ (kept.left (parts_of st) (suc t) true has)
 
-pub kept_called : (P : Parts → Type 0) → IsKept P → (mode : Mode) (n : ℕ) (st : State) (t : ℕ) (c : Call) → Has P st → Has P (called mode n st t c).state
+pub kept_called : (P : Parts → Type 0) → IsSteady P → (mode : Mode) (n : ℕ) (st : State) (t : ℕ) (c : Call) → Has P st → Has P (called mode n st t c).state
 unfolding called
 kept_called P kept mode n st t c has =
     let done = family_call st t c in
@@ -212,25 +299,25 @@ kept_called P kept mode n st t c has =
 
 -- ---- bodies
 
-kept_ended : (P : Parts → Type 0) → IsKept P → (st : State) → Has P st → Has P (handler_ended st)
+kept_ended : (P : Parts → Type 0) → IsSteady P → (st : State) → Has P st → Has P (handler_ended st)
 kept_ended P kept st has = kept.flagged (parts_of st) (record st.base.flags { handler = false }) has
 
-returned_if : (P : Parts → Type 0) → IsKept P → (n : ℕ) (st : State) (t : ℕ) (value : ℤ) (none : Bool) → Has P st → Has P (cond none (record { state = st; lines = [] }) (returned n st t value)).state
+returned_if : (P : Parts → Type 0) → IsSteady P → (n : ℕ) (st : State) (t : ℕ) (value : ℤ) (none : Bool) → Has P st → Has P (cond none (record { state = st; lines = [] }) (returned n st t value)).state
 unfolding returned
 returned_if P kept n st t value true has = has
 returned_if P kept n st t value false has = kept.left (parts_of st) t false has
 
-kept_returned : (P : Parts → Type 0) → IsKept P → (n : ℕ) (st : State) (t : ℕ) (value : ℤ) → Has P st → Has P (body_returned n st t value).state
+kept_returned : (P : Parts → Type 0) → IsSteady P → (n : ℕ) (st : State) (t : ℕ) (value : ℤ) → Has P st → Has P (body_returned n st t value).state
 unfolding body_returned
 kept_returned P kept n st zero value has = kept_ended P kept st has
 kept_returned P kept n st (suc t) value has = returned_if P kept n st (suc t) value (depth_in st.objects.contexts (suc t) == 0) has
 
-kept_fell : (P : Parts → Type 0) → IsKept P → (mode : Mode) (n : ℕ) (st : State) (t depth : ℕ) → Has P st → Has P (fell_in mode n st t depth).state
+kept_fell : (P : Parts → Type 0) → IsSteady P → (mode : Mode) (n : ℕ) (st : State) (t depth : ℕ) → Has P st → Has P (fell_in mode n st t depth).state
 kept_fell P kept mode n st zero depth has = kept_returned P kept n st 0 (pos 0) has
 kept_fell P kept mode n st (suc t) zero has = kept_called P kept mode n st (suc t) (calls.Task task.ExtTsk) has
 kept_fell P kept mode n st (suc t) (suc depth) has = kept_returned P kept n st (suc t) (pos 0) has
 
-kept_acted : (P : Parts → Type 0) → IsKept P → (mode : Mode) (n : ℕ) (st : State) (t : ℕ) (act : Act) → Has P st → Has P (acted mode n st t act).state
+kept_acted : (P : Parts → Type 0) → IsSteady P → (mode : Mode) (n : ℕ) (st : State) (t : ℕ) (act : Act) → Has P st → Has P (acted mode n st t act).state
 unfolding acted
 kept_acted P kept mode n st t acts.Computed has = has
 kept_acted P kept mode n st t (acts.Call c) has = kept_called P kept mode n st t c has
@@ -239,49 +326,24 @@ kept_acted P kept mode n st t (acts.Return value) has = kept_returned P kept n s
 kept_acted P kept mode n st t acts.Fell has = kept_fell P kept mode n st t (depth_in st.objects.contexts t) has
 kept_acted P kept mode n st t acts.Halt has = has
 
-kept_ran : (P : Parts → Type 0) → IsKept P → (script : Script) (mode : Mode) (n : ℕ) (st : State) (t : ℕ) → Has P st → Has P (ran script mode n st t).state
+kept_ran : (P : Parts → Type 0) → IsSteady P → (script : Script) (mode : Mode) (n : ℕ) (st : State) (t : ℕ) → Has P st → Has P (ran script mode n st t).state
 unfolding ran
 kept_ran P kept script mode n st t has =
     let result = fetch script (frame_of st t) st.memory in
     kept_acted P kept mode n (record (with_frame st t result.frame) { memory = result.memory }) t result.act (kept.written (parts_of st) result.memory has)
 
--- ---- ticks
-
-kept_fallen : (P : Parts → Type 0) → IsKept P → (mode : Mode) (st : State) (what : DueKind) → Has P st → Has P (fallen mode st what)
-unfolding fallen
-kept_fallen P kept mode st (dues.Wait t) has = kept_settled P kept mode _ (kept.released (parts_of st) t (limit_answer st.base t) has)
-kept_fallen P kept mode st (dues.Cyclic id) has = kept.again (parts_of st) (dues.Cyclic id) has
-kept_fallen P kept mode st (dues.Alarm id) has = kept.again (parts_of st) (dues.Alarm id) has
-
-due_cases : (P : Parts → Type 0) (left_over : ℕ) (mode : Mode) (st : State) (what : Option DueKind) → Has P st → ((kind : DueKind) → Has P (due_done left_over mode (fallen mode (record st { base = take_due st.base }) kind))) →
-    Has P (elim what as (λ _. State) [ None ↦ st | Some kind ↦ due_done left_over mode (fallen mode (record st { base = take_due st.base }) kind) ])
-due_cases P left_over mode st None has later = has
-due_cases P left_over mode st (Some kind) has later = later kind
-
-kept_due : (P : Parts → Type 0) → IsKept P → (left_over : ℕ) (mode : Mode) (st : State) → Has P st → Has P (due_done left_over mode st)
-unfolding due_done
-kept_due P kept zero mode st has = has
-kept_due P kept (suc left_over) mode st has =
-    let rest : State = record st { base = take_due st.base } in
-    due_cases P left_over mode st (due_event st.base.time st.base.events) has
-    (λ what. kept_due P kept left_over mode (fallen mode rest what) (kept_fallen P kept mode rest what (kept.taken (parts_of st) has)))
-
-pub kept_tick : (P : Parts → Type 0) → IsKept P → (mode : Mode) (n : ℕ) (st : State) → Has P st → Has P (tick mode n st).state
-unfolding tick
-kept_tick P kept mode n st has = kept_due P kept (length st.base.events) mode (record st { base = advance st.base }) (kept.advanced (parts_of st) has)
-
 -- ---- handlers
 
-kept_handler : (P : Parts → Type 0) → IsKept P → (st : State) → Has P st → P (record (parts_of st) { base = set_flags st.base (record st.base.flags { handler = true }) })
+kept_handler : (P : Parts → Type 0) → IsSteady P → (st : State) → Has P st → P (record (parts_of st) { base = set_flags st.base (record st.base.flags { handler = true }) })
 kept_handler P kept st has = kept.flagged (parts_of st) (record st.base.flags { handler = true }) has
 
-kept_due_begun : (P : Parts → Type 0) → IsKept P → (n : ℕ) (st : State) (what : DueKind) → Has P st → Has P (due_begun n st what).state
+kept_due_begun : (P : Parts → Type 0) → IsSteady P → (n : ℕ) (st : State) (what : DueKind) → Has P st → Has P (due_begun n st what).state
 unfolding due_begun handler_begun
 kept_due_begun P kept n st (dues.Cyclic id) has = kept_handler P kept st has
 kept_due_begun P kept n st (dues.Alarm id) has = kept_handler P kept st has
 kept_due_begun P kept n st (dues.Wait t) has = has
 
-kept_interrupt : (P : Parts → Type 0) → IsKept P → (n : ℕ) (st : State) (number : ℕ) → Has P st → Has P (interrupt_begun n st number).state
+kept_interrupt : (P : Parts → Type 0) → IsSteady P → (n : ℕ) (st : State) (number : ℕ) → Has P st → Has P (interrupt_begun n st number).state
 unfolding interrupt_begun handler_begun
 kept_interrupt P kept n st number has = kept_handler P kept st has
 
@@ -301,20 +363,24 @@ pending_has P script n st has =
 
 -- ---- turns
 
-pub kept_turn : (P : Parts → Type 0) → IsKept P → (script : Script) (mode : Mode) (n : ℕ) (st : State) (turn : Turn) → Has P st → Has P (done_turn script mode n st turn).state
+ticked : (P : Parts → Type 0) → IsSteady P → (mode : Mode) (n : ℕ) (st : State) → Has P st → Has P (tick mode n st).state
+unfolding tick
+ticked P kept mode n st has = kept.ticks mode st has
+
+pub kept_turn : (P : Parts → Type 0) → IsSteady P → (script : Script) (mode : Mode) (n : ℕ) (st : State) (turn : Turn) → Has P st → Has P (done_turn script mode n st turn).state
 unfolding done_turn
 kept_turn P kept script mode n st turns.Handler has = kept_ran P kept script mode n st 0 has
 kept_turn P kept script mode n st (turns.Due what) has = kept_due_begun P kept n (record st { due = drop 1 st.due }) what has
-kept_turn P kept script mode n st turns.Tick has = kept_tick P kept mode n (record st { ticks = st.ticks - 1 }) has
+kept_turn P kept script mode n st turns.Tick has = ticked P kept mode n (record st { ticks = st.ticks - 1 }) has
 kept_turn P kept script mode n st (turns.Interrupt number) has = kept_interrupt P kept n st number has
 kept_turn P kept script mode n st (turns.Task t) has = kept_ran P kept script mode n st t has
-kept_turn P kept script mode n st turns.Idle has = kept_tick P kept mode n st has
+kept_turn P kept script mode n st turns.Idle has = ticked P kept mode n st has
 
 -- what is done at a step, before all that follows it
-pub kept_first : (P : Parts → Type 0) → IsKept P → (script : Script) (mode : Mode) (n : ℕ) (st : State) → Has P st → Has P (done_turn script mode n (made_pending script n st) (turn_of (made_pending script n st))).state
+pub kept_first : (P : Parts → Type 0) → IsSteady P → (script : Script) (mode : Mode) (n : ℕ) (st : State) → Has P st → Has P (done_turn script mode n (made_pending script n st) (turn_of (made_pending script n st))).state
 kept_first P kept script mode n st has = kept_turn P kept script mode n (made_pending script n st) (turn_of (made_pending script n st)) (pending_has P script n st has)
 
-pub kept_worked : (P : Parts → Type 0) → IsKept P → (script : Script) (mode : Mode) (n : ℕ) (st : State) → Has P st → Has P (worked script mode n st).state
+pub kept_worked : (P : Parts → Type 0) → IsSteady P → (script : Script) (mode : Mode) (n : ℕ) (st : State) → Has P st → Has P (worked script mode n st).state
 unfolding worked
 kept_worked P kept script mode n st has =
     kept_followed P kept script mode n (done_turn script mode n (made_pending script n st) (turn_of (made_pending script n st))).state (kept_first P kept script mode n st has)

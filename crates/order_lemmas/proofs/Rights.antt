@@ -24,7 +24,7 @@ use Rattle.kernel_lemmas.proofs.Releases.{release_others, release_over}
 use Rattle.kernel_lemmas.proofs.Sorting.{times_sort}
 use Rattle.kernel_lemmas.proofs.Tables.{entry_cases, entry_each, entry_same, itself}
 use Rattle.call_lemmas.proofs.Serving.{waits_for_waits}
-use Rattle.call_walk.proofs.BaseMoves.{end_waits_keeps}
+use Rattle.call_walk.proofs.BaseMoves.{end_waits_keeps, still}
 use Rattle.call_walk.proofs.Places.{places_kept}
 
 -- how the waiters of each object queue, where there is that object
@@ -295,4 +295,4 @@ ended_fits orders order object b all = ends_fit orders (length (queue order b ob
 
 -- and have their places
 pub ended_places : (order : Order) (object : ℕ) (b : Base) → HavePlaces b → HavePlaces (end_waits order object b)
-ended_places order object b has = end_waits_keeps HavePlaces places_kept order object b has
+ended_places order object b has = end_waits_keeps HavePlaces (still HavePlaces places_kept) order object b has
