@@ -1,0 +1,2 @@
+pub mod DeviceMails
+pub mod Mails
