@@ -31,11 +31,12 @@ PhaseAsks sizes t (Waiting object) = 512 ≤ object → object ≤ 575 → 0 < s
 PhaseAsks sizes t Ready = Unit {0}
 PhaseAsks sizes t Dormant = Unit {0}
 
+-- so it is with a slot of the table of tasks
 abbrev pub RowAsks : List ℕ → ℕ → Option Task → Type 0
 RowAsks sizes t None = Unit {0}
 RowAsks sizes t (Some k) = PhaseAsks sizes t k.phase
 
--- so it is with each task
+-- and with each task
 abbrev pub AllAsk : List ℕ → Base → Type 0
 AllAsk sizes b = (t : ℕ) → RowAsks sizes t (task_at b t)
 
