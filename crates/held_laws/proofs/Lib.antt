@@ -1,0 +1,4 @@
+pub mod DeviceMails
+pub mod Mails
+pub mod Asks
+pub mod Pools
