@@ -1,5 +1,5 @@
 -- Every call on mailboxes and message buffers, every serving, and every message that the kernel posts leaves their tables short.
-use Rattle.std.proofs.Common.{◌≡◌, ℕ, ◌≤◌, length, Bool, true, false, cond, List, [], ◌∷◌, Option, Some, None, ℤ, pos}
+use Rattle.std.proofs.Common.{ℕ, ◌≤◌, length, Bool, true, false, cond, List, [], ◌∷◌, Option, Some, None, ℤ, pos}
 use Rattle.std.specs.Prelude.{drop}
 use Rattle.std.specs.Ordering.{int_eq}
 use Rattle.tk_types.specs.declared.answer.Who.{Who}

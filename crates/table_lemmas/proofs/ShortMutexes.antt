@@ -15,7 +15,7 @@ use Rattle.kernel_model.specs.Tasks.Base.{Base}
 use Rattle.kernel_model.specs.Tasks.Calls.{caller}
 use Rattle.kernel_model.specs.SemFlags.Calls.{object_checks}
 use Rattle.object_model.specs.declared.mutexes.Mutex.{Mutex}
-use Rattle.object_model.specs.Mutexes.Tables.{MutexParts, Mutexes, free_last, freed, has_mutex, held, locked, mutex_at, mutex_waiters, serve_mutex, serve_mutex_at, serve_mutex_of, serve_mutexes}
+use Rattle.object_model.specs.Mutexes.Tables.{MutexParts, Mutexes, free_last, freed, has_mutex, held, mutex_at, mutex_waiters, serve_mutex, serve_mutex_at, serve_mutex_of, serve_mutexes}
 use Rattle.object_model.specs.Mutexes.Calls as calls
 use Rattle.object_model.specs.Mutexes.Calls.{MutexDone, mutex_call, mutex_checked, refused_with, waited_for_mutex}
 use Rattle.table_lemmas.proofs.Slots.{IfServed, first_kept, set_short}

@@ -1,5 +1,5 @@
 -- Every call on semaphores and event flags, and every serving, leaves their tables short.
-use Rattle.std.proofs.Common.{◌≡◌, ℕ, ◌≤◌, length, Bool, true, false, cond, List, [], ◌∷◌, Option, Some, None, ℤ, pos}
+use Rattle.std.proofs.Common.{ℕ, ◌≤◌, length, Bool, true, false, cond, List, [], ◌∷◌, Option, Some, None, ℤ, pos}
 use Rattle.std.specs.Prelude.{bit_and, bit_or, drop}
 use Rattle.std.specs.Int.{w32, cast_unsigned}
 use Rattle.std.specs.Ordering.{int_eq}

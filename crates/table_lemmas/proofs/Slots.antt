@@ -1,5 +1,5 @@
 -- A slot that is written leaves a table as long as it is, and the first object that serves is one of those that do.
-use Rattle.std.proofs.Common.{◌≡◌, ℕ, ◌≤◌, length, List, [], ◌∷◌, Option, Some, None, sym, subst}
+use Rattle.std.proofs.Common.{ℕ, ◌≤◌, length, List, [], ◌∷◌, Option, Some, None, sym, subst}
 use Rattle.std.specs.Prelude.{slice_set}
 use Rattle.std.specs.Option.{option_or}
 use Rattle.object_model.specs.Servings.{first_serving}
