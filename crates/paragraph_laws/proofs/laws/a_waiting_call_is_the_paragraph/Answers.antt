@@ -12,6 +12,9 @@ returns-clause-rest c = rest_settled
 pub returns-clause-short : goal.returns-clause-short
 returns-clause-short c = reached_short
 
+pub returns-clause-reached : goal.returns-clause-reached
+returns-clause-reached c = λ script mode budget moves runnable rest. rest_settled mode _ rest (reached_short script mode budget moves runnable)
+
 pub returns-clause-semaphore : goal.returns-clause-semaphore
 returns-clause-semaphore c = sem_call_is_paragraph
 
