@@ -14,7 +14,7 @@ use Rattle.device_model.specs.Devices.Endings.{DevParts}
 use Rattle.device_model.specs.Devices.Servings.{serve_acceptances, serve_endings, serve_closes, serve_suspension}
 use Rattle.machine_model.specs.States.Objects.{Parts, dev_parts, first_serving, kinds, mail_parts, pool_parts, serve_object}
 use Rattle.machine_lemmas.proofs.HandingServes.{AllKinds, each_kind, no_kind, unmapped}
-use Rattle.paragraph_laws.specs.Paragraph.{AreShort}
+use Rattle.table_lemmas.specs.Short.{AreShort}
 use Rattle.paragraph_laws.proofs.Joined.{AwayFrom}
 use Rattle.paragraph_laws.proofs.Still.{acceptances_still, boxes_still, buffers_still, closes_still, endings_still, fixed_pools_still, mutexes_still, sem_flags_still, suspension_still, variable_pools_still}
 

@@ -17,7 +17,8 @@ use Rattle.machine_model.specs.States.State.{State, parts_of}
 use Rattle.machine_lemmas.proofs.Rest.{HasSettled}
 use Rattle.machine_lemmas.proofs.Settling.{next_served, settled_none}
 use Rattle.mutex_laws.proofs.Resettled.{resettled_same}
-use Rattle.paragraph_laws.specs.Paragraph.{AreShort, IsSettled, after_settling, over_or_waits, returns_to}
+use Rattle.table_lemmas.specs.Short.{AreShort}
+use Rattle.paragraph_laws.specs.Paragraph.{IsSettled, after_settling, over_or_waits, returns_to}
 use Rattle.paragraph_laws.proofs.Still.{SameQueue}
 
 -- what has settled, in the words of the lemmas on settling

@@ -34,7 +34,8 @@ use Rattle.machine_model.specs.Events.Settle.{settle}
 use Rattle.machine_model.specs.States.Objects.{Parts, kinds, mail_parts, pool_parts, serve_object, with_pools}
 use Rattle.machine_lemmas.proofs.HandingServes.{AllKinds, mapped_none}
 use Rattle.machine_lemmas.proofs.Rest.{HasSettled}
-use Rattle.paragraph_laws.specs.Paragraph.{AreShort, IsSettled, after_settling, joins, paragraph, pool_waits}
+use Rattle.table_lemmas.specs.Short.{AreShort}
+use Rattle.paragraph_laws.specs.Paragraph.{IsSettled, after_settling, joins, paragraph, pool_waits}
 use Rattle.paragraph_laws.proofs.Joined.{AwayFrom, IsNoMutex, joined_keeps, kept_up_to_date, queue_elsewhere, queue_rejoined, served_keeps}
 use Rattle.paragraph_laws.proofs.OneKind.{NoneBut, NoneOf, boxes_beside, buffers_beside, devices_beside, fixed_beside, mutexes_beside, none_of, only_kind, sem_flags_beside}
 use Rattle.paragraph_laws.proofs.Pools.{over_pool, pools_to}

@@ -2,7 +2,7 @@
 -- and all settles. If that ended the caller's wait, the call returns, and the caller has its old stamp again. If not, with a
 -- time-out of 0 everything is as before the call, and the answer is E_TMOUT; else the task waits.
 -- The law `a_waiting_call_is_the_paragraph` says that the calls do this on every state at rest.
-use Rattle.std.specs.Prelude.{ℕ, ◌≡◌, ◌≤◌, length, None, if◌then◌else◌, ℤ, pos}
+use Rattle.std.specs.Prelude.{ℕ, ◌≡◌, None, if◌then◌else◌, ℤ, pos}
 use Rattle.std.specs.Option.{option_map_or}
 use Rattle.std.specs.Ordering.{int_eq}
 use Rattle.tk_types.specs.declared.answer.Answer.{Answer}
@@ -21,6 +21,7 @@ use Rattle.mail_laws.specs.Trial.{ended_in}
 use Rattle.machine_model.specs.Events.Rest.{AreUpToDate}
 use Rattle.machine_model.specs.Events.Settle.{handed, settle}
 use Rattle.machine_model.specs.States.Objects.{Objects, Parts, serve_object}
+use Rattle.table_lemmas.specs.Short.{AreShort}
 
 -- what a waiting call left, and what became of it
 pub record WaitDone : Type 0 where
@@ -74,16 +75,6 @@ abbrev pub pool_waits : Parts → PoolDone → WaitDone
 pool_waits p done = record { parts = record p { base = done.base; objects = record p.objects { pools = done.table } }; outcome = done.outcome }
 
 -- ---- where the law holds
-
--- no table of objects has more slots than its objects have numbers
-pub record AreShort (o : Objects) : Type 0 where
-  pub sems : length o.sem_flags.sems ≤ 65
-  pub flags : length o.sem_flags.flags ≤ 65
-  pub boxes : length o.mails.boxes ≤ 65
-  pub mutexes : length o.mutexes.table ≤ 65
-  pub buffers : length o.mails.buffers ≤ 65
-  pub fixed : length o.pools.fixed ≤ 65
-  pub variable : length o.pools.variable ≤ 65
 
 -- parts that have settled: nobody can be served, each priority is that of its definition, and no request can go to a driver
 pub record IsSettled (mode : Mode) (p : Parts) : Type 0 where

@@ -1,6 +1,6 @@
 //! The law of the paragraph on waiting calls, the contract of a function that does nothing.
 
-ghost use Rattle.std.specs.Prelude.{◌≡◌, ℕ, ◌<◌, ◌≤◌, ℤ, length, Some};
+ghost use Rattle.std.specs.Prelude.{◌≡◌, ℕ, ◌<◌, ◌≤◌, ℤ, List, length, Some};
 ghost use Rattle.tk_types.specs.declared.run.Mode.{Mode};
 ghost use Rattle.kernel_model.specs.SemFlags.Trial.{MayWait, asked_count, asked_wish};
 ghost use Rattle.kernel_model.specs.declared.objects.EventFlag.{EventFlag};
@@ -14,17 +14,24 @@ ghost use Rattle.object_model.specs.Pools.Tables.{FixedPool, VariablePool, fixed
 ghost use Rattle.object_model.specs.Pools.Calls.{got_from_fixed, got_from_variable};
 ghost use Rattle.pool_laws.specs.Blocks.{LieApart};
 ghost use Rattle.pool_laws.specs.Trial.{asked_size};
+ghost use Rattle.tk_types.specs.declared.script.Script.{Script};
+ghost use Rattle.kernel_model.specs.Bodies.Statements.{IsRunnable};
+ghost use Rattle.machine_model.specs.Runs.Reached.{Move, state_after};
 ghost use Rattle.machine_model.specs.Events.Rest.{IsAtRest};
 ghost use Rattle.machine_model.specs.States.Objects.{Parts, mail_parts, pool_parts};
 ghost use Rattle.machine_model.specs.States.State.{State, parts_of};
-ghost use Rattle.paragraph_laws.specs.Paragraph.{AreShort, IsSettled, mail_waits, paragraph, pool_waits, sem_flag_waits};
+ghost use Rattle.table_lemmas.specs.Short.{AreShort};
+ghost use Rattle.paragraph_laws.specs.Paragraph.{IsSettled, mail_waits, paragraph, pool_waits, sem_flag_waits};
 
 /// A waiting call does what the paragraph on waiting calls says, with the whole of settling: the caller joins the waiters of its
 /// object, all settles, and the call returns, is over or waits by whether that ended the caller's wait. The parts have settled
-/// before the call, as those of every state at rest whose tables have no more slots than their objects have numbers (`rest`), and
-/// the caller is ready and has no end of a wait set, as in every state in which a task acts.
+/// before the call, as those of every state at rest whose tables have no more slots than their objects have numbers (`rest`), which
+/// those of every state that a machine comes to have (`short`, `reached`), and the caller is ready and has no end of a wait set, as in every state in which a task acts.
 pub fn a_waiting_call_is_the_paragraph()
     ensures rest { (mode : Mode) (st : State) → IsAtRest mode st → AreShort st.objects → IsSettled mode (parts_of st) }
+    ensures short { (script : Script) (mode : Mode) (budget : ℕ) (moves : List Move) → IsRunnable script → AreShort (state_after script mode budget moves).objects }
+    ensures reached { (script : Script) (mode : Mode) (budget : ℕ) (moves : List Move) → IsRunnable script → IsAtRest mode (state_after script mode budget moves) →
+        IsSettled mode (parts_of (state_after script mode budget moves)) }
     ensures semaphore { (mode : Mode) (p : Parts) (t id n : ℕ) (timeout : ℤ) (k : Semaphore) → IsSettled mode p → MayWait p.base t → 1 ≤ id →
         sem_at p.objects.sem_flags id ≡ Some k → t < length p.objects.sem_flags.counts →
         sem_flag_waits p (waited_for_sem p.base p.objects.sem_flags t id n timeout (Some k)) ≡
