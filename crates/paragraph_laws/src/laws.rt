@@ -25,12 +25,13 @@ ghost use Rattle.paragraph_laws.specs.Paragraph.{IsSettled, mail_waits, paragrap
 
 /// A waiting call does what the paragraph on waiting calls says, with the whole of settling: the caller joins the waiters of its
 /// object, all settles, and the call returns, is over or waits by whether that ended the caller's wait. The parts have settled
-/// before the call, as those of every state at rest whose tables have no more slots than their objects have numbers (`rest`), which
-/// those of every state that a machine comes to have (`short`, `reached`), and the caller is ready and has no end of a wait set, as in every state in which a task acts.
+/// before the call, as those of every state at rest whose tables have no more slots than their objects have numbers (`rest`),
+/// and so those of every state that a machine comes to (`short`, `reached`); and the caller is ready and has no end of a wait
+/// set.
 pub fn a_waiting_call_is_the_paragraph()
     ensures rest { (mode : Mode) (st : State) → IsAtRest mode st → AreShort st.objects → IsSettled mode (parts_of st) }
     ensures short { (script : Script) (mode : Mode) (budget : ℕ) (moves : List Move) → IsRunnable script → AreShort (state_after script mode budget moves).objects }
-    ensures reached { (script : Script) (mode : Mode) (budget : ℕ) (moves : List Move) → IsRunnable script → IsAtRest mode (state_after script mode budget moves) →
+    ensures reached { (script : Script) (mode : Mode) (budget : ℕ) (moves : List Move) → IsRunnable script →
         IsSettled mode (parts_of (state_after script mode budget moves)) }
     ensures semaphore { (mode : Mode) (p : Parts) (t id n : ℕ) (timeout : ℤ) (k : Semaphore) → IsSettled mode p → MayWait p.base t → 1 ≤ id →
         sem_at p.objects.sem_flags id ≡ Some k → t < length p.objects.sem_flags.counts →

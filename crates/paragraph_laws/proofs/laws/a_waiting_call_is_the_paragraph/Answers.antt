@@ -3,6 +3,7 @@ use Rattle.paragraph_laws.proofs.Pools.{fixed_call_is_paragraph}
 use Rattle.paragraph_laws.proofs.SemFlags.{flag_call_is_paragraph, sem_call_is_paragraph}
 use Rattle.paragraph_laws.proofs.Settled.{rest_settled}
 use Rattle.paragraph_laws.proofs.VariablePools.{variable_call_is_paragraph}
+use Rattle.machine_lemmas.proofs.ReachedRest.{reached_rest}
 use Rattle.table_lemmas.proofs.ReachedShort.{reached_short}
 use Rattle.paragraph_laws.proofs.laws.a_waiting_call_is_the_paragraph.Goals as goal
 
@@ -13,7 +14,7 @@ pub returns-clause-short : goal.returns-clause-short
 returns-clause-short c = reached_short
 
 pub returns-clause-reached : goal.returns-clause-reached
-returns-clause-reached c = λ script mode budget moves runnable rest. rest_settled mode _ rest (reached_short script mode budget moves runnable)
+returns-clause-reached c = λ script mode budget moves runnable. rest_settled mode _ (reached_rest script mode budget moves runnable) (reached_short script mode budget moves runnable)
 
 pub returns-clause-semaphore : goal.returns-clause-semaphore
 returns-clause-semaphore c = sem_call_is_paragraph
