@@ -158,6 +158,7 @@ pub move_asks : (sizes : List ℕ) (b : Base) (v object : ℕ) (by : Order) → 
 move_asks sizes b v object by there all =
     entry_cases (AllAsk sizes) (task_at b v) b (λ k. cond (is_waiting_phase k.phase) (with_task (drop_wait b v) v (record k { phase = Waiting object; queue = by })) b) all
     (λ k at. moved_asks sizes b v object by k (is_waiting_phase k.phase) there all)
+
 -- ---- servings
 
 -- every serving keeps it, whichever object serves
