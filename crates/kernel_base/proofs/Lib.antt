@@ -6,3 +6,4 @@ pub mod WaiterLists
 pub mod Waited
 pub mod Heads
 pub mod Restored
+pub mod Unset

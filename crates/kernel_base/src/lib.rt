@@ -6,6 +6,7 @@ mod base;
 mod calls;
 mod ending;
 mod events;
+mod handlers;
 mod ids;
 mod joining;
 mod priorities;

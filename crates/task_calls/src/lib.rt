@@ -16,20 +16,22 @@ mod waking;
 ghost use Rattle.std.specs.Prelude.{◌≡◌, ◌<◌, ◌^◌};
 ghost use Rattle.kernel_model.specs.Tasks.Queues.{AreOfOrder};
 ghost use Rattle.tk_types.specs.declared.task.Order.TheVariants.{Fifo};
-ghost use Rattle.kernel_model.specs.Tasks.Calls.{task_call};
+ghost use Rattle.object_model.specs.Mutexes.Calls.{task_call_beside};
 
 use kernel_base::Base;
+use mutex_prio::Mutexes;
 use tk_types::{Outcome, TaskCall, Who};
 
 /// A call on tasks, by its row of the table of calls: the error of the first check that fails, with nothing changed,
-/// or its effect. It takes no memory. The tasks that sleep, and those in a delay, queue by the beginning of their waits.
-#[tactic(auto, unfolding(kernel_model::specs::Tasks::Calls::task_call))]
-pub fn call(base: &mut Base, who: Who, call: &TaskCall) -> Outcome
+/// or its effect. It takes no memory. `mutexes` say whether a ceiling allows a new base priority. The tasks that sleep, and
+/// those in a delay, queue by the beginning of their waits.
+#[tactic(auto, unfolding(kernel_model::specs::Tasks::Calls::task_call, object_model::specs::Mutexes::Calls::task_call_beside))]
+pub fn call(base: &mut Base, mutexes: &Mutexes, who: Who, call: &TaskCall) -> Outcome
     requires few { base.old.made < 2 ^ 63 }
     requires early { base.old.time < 2 ^ 63 }
     requires sleepers { AreOfOrder Fifo base.old 0 }
     requires delayed { AreOfOrder Fifo base.old 1 }
-    ensures { task_call base.old who call.now ≡ record { base = base.new; outcome = result } }
+    ensures { task_call_beside base.old mutexes.now who call.now ≡ record { base = base.new; outcome = result } }
 {
     match *call {
         TaskCall::CreTsk {
@@ -44,7 +46,7 @@ pub fn call(base: &mut Base, who: Who, call: &TaskCall) -> Outcome
         TaskCall::ExdTsk => ending::exit_task(base, who),
         TaskCall::TerTsk { task } => ending::terminate_task(base, who, task),
         TaskCall::ChgPri { task, priority } => priorities::change_priority(
-            base, who, task, priority,
+            base, mutexes, who, task, priority,
         ),
         TaskCall::RotRdq { priority } => priorities::rotate_ready(base, priority),
         TaskCall::GetTid => asking::get_task(base),

@@ -3,11 +3,13 @@
 ghost use Rattle.std.specs.Prelude.{◌≡◌, ◌≤◌, ◌≤ℤ◌, pos, true};
 ghost use Rattle.std.specs.Option.{is_some};
 ghost use Rattle.kernel_model.specs.Tasks.Base.{task_at};
-ghost use Rattle.kernel_model.specs.Tasks.Calls.{change_priority, new_base, rebased, rotate_ready, rotated_priority};
+ghost use Rattle.kernel_model.specs.Tasks.Calls.{new_base, rebased, rotate_ready, rotated_priority};
+ghost use Rattle.object_model.specs.Mutexes.Calls.{change_priority_beside};
 
 use crate::names::named_task;
 use kernel_base::Base;
 use kernel_base::answers::{done, failed};
+use mutex_prio::{Mutexes, ceiling_allows};
 use tk_types::{Er, Outcome, Who};
 
 /// The new base priority of a task that exists: 0 is the initial one.
@@ -39,10 +41,16 @@ fn rebase(base: &mut Base, task: u8, priority: u8)
     }
 }
 
-/// `tk_chg_pri`: a task's base priority changes.
-#[tactic(auto, unfolding(kernel_model::specs::Tasks::Calls::change_priority))]
-pub(crate) fn change_priority(base: &mut Base, who: Who, task: i32, priority: i32) -> Outcome
-    ensures { change_priority base.old who task priority ≡ record { base = base.new; outcome = result } }
+/// `tk_chg_pri`: a task's base priority changes, but not above a ceiling of a mutex that it holds or waits for.
+#[tactic(auto, unfolding(object_model::specs::Mutexes::Calls::change_priority_beside))]
+pub(crate) fn change_priority(
+    base: &mut Base,
+    mutexes: &Mutexes,
+    who: Who,
+    task: i32,
+    priority: i32,
+) -> Outcome
+    ensures { change_priority_beside base.old mutexes.now who task priority ≡ record { base = base.new; outcome = result } }
 {
     let Some(id) = named_task(who, task) else {
         return failed(Er::Id);
@@ -54,6 +62,9 @@ pub(crate) fn change_priority(base: &mut Base, who: Who, task: i32, priority: i3
         return failed(Er::NoExs);
     }
     let priority = new_base(base, id, priority);
+    if !ceiling_allows(base, mutexes, id, priority) {
+        return failed(Er::IlUse);
+    }
     rebase(base, id, priority);
     done(0)
 }

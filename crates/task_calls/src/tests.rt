@@ -8,6 +8,7 @@ use crate::call;
 use crate::sleeping::SLEEP;
 use kernel_base::answers::{done, failed};
 use kernel_base::{Base, Order};
+use mutex_prio::Mutexes;
 use std::alloc::{AllocError, Global};
 use tk_types::{Answer, Attributes, Er, Outcome, TaskCall, Who};
 
@@ -53,9 +54,10 @@ fn outcome_at(
     made: &TaskCall,
 ) -> Result<Outcome, AllocError> {
     let mut base = Base::new(alloc, 10)?;
+    let mutexes = Mutexes::new(alloc)?;
     base.dispatch();
     set_stage(&mut base, stage);
-    Ok(call(&mut base, who, made))
+    Ok(call(&mut base, &mutexes, who, made))
 }
 
 /// What task 2 shows at a stage.

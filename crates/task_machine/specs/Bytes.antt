@@ -1,5 +1,5 @@
 -- What holds of the script's memory at every time.
-use Rattle.std.specs.Prelude.{ℕ, ◌≡◌, ◌<◌, List, length}
+use Rattle.std.specs.Prelude.{ℕ, ◌≡◌, ◌+◌, ◌<◌, List, ◌++◌, length, take, drop}
 use Rattle.std.specs.List.{All}
 use Rattle.kernel_model.specs.Bodies.Statements.{memory_size}
 
@@ -7,3 +7,7 @@ use Rattle.kernel_model.specs.Bodies.Statements.{memory_size}
 pub record IsMemory (memory : List ℕ) : Type 0 where
   pub whole : length memory ≡ memory_size
   pub bytes : All (λ byte. byte < 256) memory
+
+-- a memory with bytes written from an address on
+abbrev pub with_run : List ℕ → ℕ → List ℕ → List ℕ
+with_run memory addr bytes = take addr memory ++ bytes ++ drop (addr + length bytes) memory

@@ -9,5 +9,5 @@ mod statements;
 mod tests;
 
 pub use frames::{give, start_frame};
-pub use memory::{Memory, byte, new_memory, set_byte};
+pub use memory::{Memory, byte, bytes, move_bytes, new_memory, set_byte, size, write_bytes};
 pub use statements::{call_before, fetch};

@@ -11,7 +11,7 @@ use tk_types::{DueEvent, Event};
 /// The time events that are set, how many were made so far, and how many may be set at once.
 #[derive(Drop)]
 pub struct Due {
-    events: Vec<DueEvent>,
+    pub(crate) events: Vec<DueEvent>,
     made: u64,
     most: u32,
 }

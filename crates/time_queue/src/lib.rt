@@ -3,6 +3,7 @@
 #![tactic(auto)]
 
 mod due;
+mod handlers;
 pub mod laws;
 #[cfg(test)]
 mod tests;

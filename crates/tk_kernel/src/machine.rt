@@ -1,13 +1,15 @@
 //! The machine that runs a script.
 
-ghost use Rattle.std.specs.Prelude.{◌≡◌, ◌<◌, ◌≤◌, ◌++◌, IfOk, IsErr, OnErr, OnOk, [], true};
-ghost use Rattle.first_machine.specs.Counts.{IsCounted};
-ghost use Rattle.first_machine.specs.Machine.{Machine as MachineView, after_step, new_machine};
-ghost use Rattle.kernel_model.specs.Bodies.Statements.{IsRunnable};
-ghost use Rattle.first_machine.specs.Step.{step};
+ghost use Rattle.std.specs.Prelude.{◌≡◌, ◌<◌, ◌≤◌, ◌++◌, IfOk, IsErr, OnErr, OnOk, None, [], true};
+ghost use Rattle.count_lemmas.specs.Counts.{IsCounted};
+ghost use Rattle.machine_model.specs.Events.Rest.{IsAtRest};
+ghost use Rattle.machine_model.specs.Runs.Machine.{Machine as MachineView, after_step, new_machine};
+ghost use Rattle.machine_model.specs.Runs.Reached.{after_pace};
+ghost use Rattle.machine_model.specs.Runs.Step.{step};
+ghost use Rattle.machine_model.specs.States.Waits.{IsOrderly};
+ghost use Rattle.step_lemmas.specs.Built.{IsBuilt};
+ghost use Rattle.step_lemmas.specs.Pace.{NeedsNone, lines_with, over_with};
 ghost use Rattle.tk_kernel.specs.Pace.{pace_of};
-ghost use Rattle.first_machine.specs.Rest.{IsAtRest};
-ghost use Rattle.first_machine.specs.Waits.{IsOrderly};
 
 use crate::kernel::Kernel;
 use crate::stepping::push_end;
@@ -39,58 +41,58 @@ pub struct Machine {
 }
 
 impl Model for Machine {
-    ghost use Rattle.first_machine.specs.Machine.{Machine as MachineView};
-    ghost use Rattle.tk_kernel.specs.Budgets.{IsGoing};
+    ghost use Rattle.machine_model.specs.Runs.Machine.{Machine as MachineView};
+    ghost use Rattle.step_lemmas.specs.Budgets.{IsGoing};
 
     ghost Value = { MachineView };
 
     ghost view = { λ m. record { script = m.script; mode = m.mode; budget = m.budget; state = m.kernel; over = m.over; failed = m.failed; lines = m.lines.items } };
 
-    ghost invariant = { λ m. IsGoing m.script m.budget m.kernel m.over m.failed };
+    ghost invariant = { λ m. IsGoing m.script m.mode m.budget m.kernel m.over m.failed };
 }
 
 /// A step of a run that goes on.
-#[tactic(auto, unfolding(first_machine::specs::Step::step, first_machine::specs::Step::counted))]
+#[tactic(auto, unfolding(machine_model::specs::Runs::Step::step, machine_model::specs::Runs::Step::counted))]
 fn advance(
     kernel: &mut Kernel,
     script: &Script,
+    mode: Mode,
     budget: u32,
     lines: &mut Vec<Line>,
 ) -> Result<Option<End>, AllocError>
-    requires runnable { IsRunnable script.now }
+    requires built { IsBuilt script.now }
     requires limit { budget ≤ 1000000 }
     requires left { kernel.old.steps < budget }
     requires counts { IsCounted kernel.old }
     requires orderly { IsOrderly kernel.old.base kernel.old.objects }
-    requires rest { IsAtRest kernel.old.base kernel.old.objects }
-    ensures state { OnOk result (kernel.new ≡ (step script.now budget kernel.old).state) }
-    ensures ending { IfOk result (λ over. over ≡ (step script.now budget kernel.old).over) }
-    ensures lines { OnOk result (lines.new.items ≡ lines.old.items ++ (step script.now budget kernel.old).lines) }
-    ensures orderly { OnOk result (IsOrderly kernel.new.base kernel.new.objects) }
-    ensures rest { OnOk result (IsAtRest kernel.new.base kernel.new.objects) }
+    requires rest { IsAtRest mode kernel.old }
+    ensures state { OnOk result (kernel.new ≡ after_pace kernel.old (step script.now mode budget kernel.old)) }
+    ensures ending { IfOk result (λ over. over ≡ over_with (step script.now mode budget kernel.old)) }
+    ensures lines { OnOk result (lines.new.items ≡ lines.old.items ++ lines_with kernel.old.steps (step script.now mode budget kernel.old)) }
+    ensures unneeded { NeedsNone (step script.now mode budget kernel.old) }
 {
     kernel.known_of_tasks();
-    if kernel.is_quiet() {
+    let step = kernel.steps() + 1;
+    if kernel.is_quiet() && !kernel.has_event(script, step) {
         push_end(lines, kernel.steps(), Some(End::Idle))?;
         return Ok(Some(End::Idle));
     }
-    let step = kernel.steps() + 1;
-    kernel.work(script, step, lines)?;
+    kernel.work(script, mode, step, lines)?;
     let over = kernel.count(budget, step, lines)?;
     Ok(over)
 }
 
 impl Machine {
     /// A machine at the start of a script, which keeps the line of its first dispatch. The script is one that
-    /// some text spells, and the budget of steps is from 1 to 1,000,000.
-    #[tactic(auto, unfolding(first_machine::specs::Trace::start))]
+    /// some text spells, all of whose lines are built, and the budget of steps is from 1 to 1,000,000.
+    #[tactic(auto, unfolding(machine_model::specs::Runs::Trace::start))]
     pub fn new(
         alloc: Global,
         script: Script,
         mode: Mode,
         budget: u32,
     ) -> Result<Machine, OutOfMemory>
-        requires runnable { IsRunnable script }
+        requires built { IsBuilt script }
         requires low { 1 ≤ budget }
         requires high { budget ≤ 1000000 }
         ensures { IfOk result (λ machine. machine ≡ new_machine script mode budget) }
@@ -117,6 +119,7 @@ impl Machine {
         ensures pace { IfOk result (λ pace. pace ≡ pace_of self.new.over) }
         ensures failing { OnErr result (self.new.failed ≡ true) }
         ensures fails_on { self.old.failed ≡ true → IsErr result }
+        ensures unneeded { OnOk result (self.old.over ≡ None → NeedsNone (step self.old.script self.old.mode self.old.budget self.old.state)) }
     {
         if self.failed {
             return Err(OutOfMemory);
@@ -124,7 +127,14 @@ impl Machine {
         if let Some(end) = self.over {
             return Ok(Pace::Over(end));
         }
-        match advance(&mut self.kernel, &self.script, self.budget, &mut self.lines) {
+        self.kernel.known_of_tasks();
+        match advance(
+            &mut self.kernel,
+            &self.script,
+            self.mode,
+            self.budget,
+            &mut self.lines,
+        ) {
             Ok(over) => {
                 self.over = over;
                 Ok(pace_of(over))

@@ -1,42 +1,16 @@
-//! Statements of tasks.
+//! Statements of tasks, services and the running handler.
 
-ghost use Rattle.std.specs.Prelude.{◌≡◌, ◌<◌, ◌^◌, ◌∷◌, ◌++◌, IfOk, OnOk, [], false};
-ghost use Rattle.kernel_model.specs.Bodies.Statements.{IsRunnable};
-ghost use Rattle.first_machine.specs.Step.{acted, ran, said_line};
-ghost use Rattle.first_machine.specs.Calls.{changes_priority};
-ghost use Rattle.first_machine.specs.Rest.{AreUpToDate, IsAtRest};
-ghost use Rattle.tk_kernel.specs.declared.running.Touched.TheVariants.{AllButPriorities, Nothing};
-ghost use Rattle.first_machine.specs.Waits.{IsOrderly};
+ghost use Rattle.std.specs.Prelude.{◌≡◌, ◌<◌, ◌^◌, ◌∷◌, ◌++◌, IfOk, OnOk, [], false, true};
+ghost use Rattle.tk_types.specs.declared.run.Act.TheVariants as acts;
+ghost use Rattle.machine_model.specs.Events.Rest.{IsAtRest};
+ghost use Rattle.machine_model.specs.Runs.Turns.{acted, fell, ran, said_line};
+ghost use Rattle.machine_model.specs.States.Waits.{IsOrderly};
+ghost use Rattle.step_lemmas.specs.Built.{IsBuilt, is_built};
 
 use crate::kernel::Kernel;
 use std::alloc::AllocError;
 use task_machine::fetch;
-use tk_types::{Act, Call, Line, SayText, Script, TaskCall};
-
-/// What was touched of what the kernel keeps of tasks and objects.
-#[derive(Clone, Copy, Debug, PartialEq, Eq)]
-pub(crate) enum Touched {
-    /// Nothing.
-    Nothing,
-    /// All but priorities, as by most calls.
-    AllButPriorities,
-    /// All.
-    All,
-}
-
-/// What a call may touch.
-fn touched_by(call: &Call) -> Touched
-    ensures some { result ≡ Nothing → ⊥ }
-    ensures current { result ≡ AllButPriorities → changes_priority call.now ≡ false }
-{
-    match call {
-        Call::Task(call) => match call {
-            TaskCall::ChgPri { .. } => Touched::All,
-            _ => Touched::AllButPriorities,
-        },
-        _ => Touched::AllButPriorities,
-    }
-}
+use tk_types::{Act, Call, Line, Mode, SayText, Script, TaskCall};
 
 /// The line of what a body says.
 fn said_line(step: u32, who: u8, text: SayText) -> Line
@@ -57,69 +31,94 @@ fn say(lines: &mut Vec<Line>, step: u32, who: u8, text: SayText) -> Result<(), A
 }
 
 impl Kernel {
-    /// What a statement of a task asked for, and what it touched: nothing but calls touch what the kernel keeps of tasks and
-    /// objects. The end of a task's body is the call that ends the task.
-    #[tactic(auto, unfolding(first_machine::specs::Step::acted))]
-    fn act(
+    /// The end of a body: that of a task's body is the call that ends the task, and that of any other body returns 0.
+    fn fall_off(
         &mut self,
+        mode: Mode,
         step: u32,
-        task: u8,
-        act: &Act,
+        actor: u8,
         lines: &mut Vec<Line>,
-    ) -> Result<Touched, AllocError>
+    ) -> Result<(), AllocError>
         requires few { self.old.base.made < 2 ^ 63 }
         requires early { self.old.base.time < 2 ^ 63 }
         requires orderly { IsOrderly self.old.base self.old.objects }
-        requires rest { IsAtRest self.old.base self.old.objects }
-        ensures state { OnOk result (self.new ≡ (acted step self.old task act.now).state) }
-        ensures lines { OnOk result (lines.new.items ≡ lines.old.items ++ (acted step self.old task act.now).lines) }
-        ensures rest { IfOk result (λ touched. touched ≡ Nothing → IsAtRest self.new.base self.new.objects) }
-        ensures current { IfOk result (λ touched. touched ≡ AllButPriorities → AreUpToDate self.new.base) }
+        ensures state { OnOk result (self.new ≡ (fell mode step self.old actor).state) }
+        ensures lines { OnOk result (lines.new.items ≡ lines.old.items ++ (fell mode step self.old actor).lines) }
+    {
+        if actor == 0 || contexts::depth_in(&self.contexts, actor) > 0 {
+            return self.return_body(step, actor, 0, lines);
+        }
+        self.make_call(mode, step, actor, &Call::Task(TaskCall::ExtTsk), lines)
+    }
+
+    /// What a statement asked for. The answer is whether something may follow from it: nothing does where it was no call, no
+    /// return and no end of a body.
+    #[tactic(auto, unfolding(machine_model::specs::Runs::Turns::acted))]
+    fn act(
+        &mut self,
+        mode: Mode,
+        step: u32,
+        actor: u8,
+        act: &Act,
+        lines: &mut Vec<Line>,
+    ) -> Result<bool, AllocError>
+        requires few { self.old.base.made < 2 ^ 63 }
+        requires early { self.old.base.time < 2 ^ 63 }
+        requires orderly { IsOrderly self.old.base self.old.objects }
+        requires built { (call : _) → act.now ≡ acts.Call call → is_built call ≡ true }
+        requires rest { IsAtRest mode self.old }
+        ensures state { OnOk result (self.new ≡ (acted mode step self.old actor act.now).state) }
+        ensures lines { OnOk result (lines.new.items ≡ lines.old.items ++ (acted mode step self.old actor act.now).lines) }
+        ensures rest { IfOk result (λ follows. follows ≡ false → IsAtRest mode self.new) }
     {
         match act {
             Act::Call(call) => {
-                self.make_call(step, task, call, lines)?;
-                Ok(touched_by(call))
+                self.make_call(mode, step, actor, call, lines)?;
+                Ok(true)
             }
             Act::Fell => {
-                self.make_call(step, task, &Call::Task(TaskCall::ExtTsk), lines)?;
-                Ok(Touched::AllButPriorities)
+                self.fall_off(mode, step, actor, lines)?;
+                Ok(true)
+            }
+            Act::Return(value) => {
+                self.return_body(step, actor, *value, lines)?;
+                Ok(true)
             }
             Act::Say(text) => {
-                say(lines, step, task, *text)?;
-                Ok(Touched::Nothing)
+                say(lines, step, actor, *text)?;
+                Ok(false)
             }
             Act::Halt => {
                 self.halted = true;
-                Ok(Touched::Nothing)
+                Ok(false)
             }
-            Act::Computed => Ok(Touched::Nothing),
-            Act::Return(_) => Ok(Touched::Nothing),
+            Act::Computed => Ok(false),
         }
     }
 
-    /// A statement of a task, and what it touched.
-    #[tactic(auto, unfolding(first_machine::specs::Step::ran))]
+    /// A statement in the frame with a number. The answer is whether something may follow from it.
+    #[tactic(auto, unfolding(machine_model::specs::Runs::Turns::ran))]
     pub(crate) fn run(
         &mut self,
         script: &Script,
+        mode: Mode,
         step: u32,
-        task: u8,
+        actor: u8,
         lines: &mut Vec<Line>,
-    ) -> Result<Touched, AllocError>
-        requires runnable { IsRunnable script.now }
+    ) -> Result<bool, AllocError>
+        requires built { IsBuilt script.now }
         requires few { self.old.base.made < 2 ^ 63 }
         requires early { self.old.base.time < 2 ^ 63 }
         requires orderly { IsOrderly self.old.base self.old.objects }
-        requires rest { IsAtRest self.old.base self.old.objects }
-        ensures state { OnOk result (self.new ≡ (ran script.now step self.old task).state) }
-        ensures lines { OnOk result (lines.new.items ≡ lines.old.items ++ (ran script.now step self.old task).lines) }
-        ensures rest { IfOk result (λ touched. touched ≡ Nothing → IsAtRest self.new.base self.new.objects) }
-        ensures current { IfOk result (λ touched. touched ≡ AllButPriorities → AreUpToDate self.new.base) }
+        requires rest { IsAtRest mode self.old }
+        ensures state { OnOk result (self.new ≡ (ran script.now mode step self.old actor).state) }
+        ensures lines { OnOk result (lines.new.items ≡ lines.old.items ++ (ran script.now mode step self.old actor).lines) }
+        ensures rest { IfOk result (λ follows. follows ≡ false → IsAtRest mode self.new) }
     {
-        let mut frame = self.frame(task);
+        self.known_of_tasks();
+        let mut frame = self.frame(actor);
         let act = fetch(&mut frame, &mut self.memory, script);
-        self.set_frame(task, frame);
-        self.act(step, task, &act, lines)
+        self.set_frame(actor, frame);
+        self.act(mode, step, actor, &act, lines)
     }
 }

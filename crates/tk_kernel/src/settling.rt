@@ -1,55 +1,21 @@
 //! What follows each event: settling, the lines of the waits that ended, and the dispatch.
 
-ghost use Rattle.std.specs.Prelude.{◌≡◌, ◌≤◌, ◌++◌, OnOk, true, unwrap_or};
-ghost use Rattle.std.specs.Option.{is_some};
-ghost use Rattle.kernel_model.specs.Tasks.Base.{task_at};
+ghost use Rattle.std.specs.Prelude.{◌≡◌, ◌≤◌, ◌++◌, OnOk, true};
 ghost use Rattle.tk_types.specs.declared.call_name.CallName.{CallName};
-ghost use Rattle.first_machine.specs.Priority.{current_of, refresh, resettle};
-ghost use Rattle.first_machine.specs.Rest.{AreUpToDate, IsAtRest};
-ghost use Rattle.tk_kernel.specs.declared.running.Touched.TheVariants.{AllButPriorities};
-ghost use Rattle.first_machine.specs.Waits.{IsOrderly};
-ghost use Rattle.first_machine.specs.Settle.{dispatched, follow_release, followed, refreshed, release_line, serve_first, settle, with_releases};
+ghost use Rattle.machine_model.specs.Events.Rest.{IsAtRest};
+ghost use Rattle.machine_model.specs.Events.Settle.{handed, refreshed, served_within};
+ghost use Rattle.machine_model.specs.Events.Follow.{delays, dispatched, follow_release, followed, release_line, settled, with_releases};
+ghost use Rattle.machine_model.specs.States.State.{parts_of, with_parts};
+ghost use Rattle.machine_model.specs.States.Waits.{IsOrderly};
 
 use crate::kernel::Kernel;
-use crate::running::Touched;
-use kernel_base::{Base, Release};
+use kernel_base::Release;
 use std::alloc::AllocError;
 use task_machine::{call_before, give};
-use tk_types::{CallName, Line, Script};
+use tk_types::{CallName, Line, Mode, Script};
 
-/// The most servings of one settling: each ends a wait, and no more tasks wait than have a slot.
-const MOST_SERVINGS: usize = 256;
-
-/// The current priority of a task by definition.
-fn current_of(base: &Base, task: u8) -> u8
-    ensures priority { result ≡ current_of base.now task }
-    ensures low { is_some (task_at base.now task) ≡ true → 1 ≤ result }
-    ensures high { result ≤ 140 }
-{
-    base.base_of(task)
-}
-
-/// A task whose current priority isn't that of its definition takes that one, with a new stamp. Where there is no such
-/// task nothing changes.
-fn refresh(base: &mut Base, task: u8)
-    ensures { base.new ≡ refresh base.old task }
-{
-    let priority = current_of(base, task);
-    if base.current(task) != priority {
-        base.set_current(task, priority);
-    }
-}
-
-/// Each changed current priority is taken over, in rising ID.
-#[tactic(auto, unfolding(first_machine::specs::Priority::resettle))]
-fn resettle(base: &mut Base)
-    ensures { base.new ≡ resettle base.old }
-{
-    let ids = base.ids();
-    'tasks: for id in 1..ids {
-        refresh(base, id as u8);
-    }
-}
+/// The most servings of one settling: each ends a wait, or moves one, and no more tasks wait than have a slot.
+const MOST_SERVINGS: usize = 512;
 
 /// Adds the line of a wait that ended, where its call is known.
 fn push_release_line(
@@ -77,27 +43,33 @@ fn push_release_line(
 
 impl Kernel {
     /// Changed priorities are taken over.
+    fn take_priorities(&mut self)
+        ensures { self.new ≡ with_parts self.old (refreshed (parts_of self.old)) }
+    {
+        mutex_prio::resettle(&mut self.base, &self.mutexes);
+    }
+
+    /// The same; each task that waits still stands in its order.
     fn refresh(&mut self)
-        ensures { self.new ≡ refreshed self.old }
+        requires orderly { IsOrderly self.old.base self.old.objects }
+        ensures taken { self.new ≡ with_parts self.old (refreshed (parts_of self.old)) }
+        ensures orderly { IsOrderly self.new.base self.new.objects }
     {
-        resettle(&mut self.base);
+        self.known_of_tasks();
+        self.take_priorities();
     }
 
-    /// The first object by kind and ID that can serve a waiter serves one. False, with nothing changed, comes exactly where
-    /// none can.
-    fn serve_first(&mut self) -> bool
-        requires orderly { IsOrderly self.old.base self.old.objects }
-        ensures served { result ≡ is_some (serve_first self.old) }
-        ensures left { self.new ≡ unwrap_or (serve_first self.old) self.old }
+    /// In free mode requests go to the drivers that have none. There is no device yet.
+    fn hand_over(&mut self, _mode: Mode)
+        ensures { self.new ≡ with_parts self.old (handed _mode (parts_of self.old)) }
     {
-        sem_flag::serve_first(&mut self.base, &mut self.sem_flags)
+        self.known_of_tasks();
     }
 
-    /// Settling: changed priorities are taken over, and waiters are served one after another until none can be.
-    #[tactic(auto, unfolding(first_machine::specs::Settle::settle))]
-    pub(crate) fn settle(&mut self)
+    /// Changed priorities are taken over, and waiters are served one after another until none can be.
+    fn serve_all(&mut self)
         requires orderly { IsOrderly self.old.base self.old.objects }
-        ensures { self.new ≡ settle self.old }
+        ensures { self.new ≡ with_parts self.old (served_within 512 (refreshed (parts_of self.old))) }
     {
         self.refresh();
         'servings: for _served in 0..MOST_SERVINGS {
@@ -108,35 +80,28 @@ impl Kernel {
         }
     }
 
-    /// The same where each task's current priority is that of its definition: there is none to take over, and no serving
-    /// changes one.
-    fn serve_all(&mut self)
+    /// Settling: changed priorities are taken over, waiters are served until none can be, and requests go to drivers.
+    #[tactic(auto, unfolding(machine_model::specs::Events::Settle::settle))]
+    fn settle_parts(&mut self, mode: Mode)
         requires orderly { IsOrderly self.old.base self.old.objects }
-        requires current { AreUpToDate self.old.base }
-        ensures { self.new ≡ settle self.old }
+        ensures { self.new ≡ settled mode self.old }
     {
-        'servings: for _served in 0..MOST_SERVINGS {
-            if !self.serve_first() {
-                return;
-            }
-        }
+        self.serve_all();
+        self.hand_over(mode);
     }
 
-    /// Settling after something was touched.
-    fn settle_after(&mut self, touched: Touched)
+    /// The same; each task that waits still stands in its order.
+    pub(crate) fn settle(&mut self, mode: Mode)
         requires orderly { IsOrderly self.old.base self.old.objects }
-        requires current { touched ≡ AllButPriorities → AreUpToDate self.old.base }
-        ensures { self.new ≡ settle self.old }
+        ensures settled { self.new ≡ settled mode self.old }
+        ensures orderly { IsOrderly self.new.base self.new.objects }
     {
-        if touched == Touched::AllButPriorities {
-            self.serve_all();
-        } else {
-            self.settle();
-        }
+        self.known_of_tasks();
+        self.settle_parts(mode);
     }
 
     /// A wait that ended has its line, and its answer goes into the registers of its task.
-    #[tactic(auto, unfolding(first_machine::specs::Settle::follow_release))]
+    #[tactic(auto, unfolding(machine_model::specs::Events::Follow::follow_release))]
     fn follow_release(
         &mut self,
         script: &Script,
@@ -155,7 +120,7 @@ impl Kernel {
     }
 
     /// The waits that ended are followed in order, and none is left to take.
-    #[tactic(auto, unfolding(first_machine::specs::Settle::with_releases))]
+    #[tactic(auto, unfolding(machine_model::specs::Events::Follow::with_releases))]
     fn follow_releases(
         &mut self,
         script: &Script,
@@ -171,12 +136,24 @@ impl Kernel {
         Ok(())
     }
 
+    /// Whether dispatching is delayed: a handler runs, one that is due waits to start, or dispatching or interrupts are
+    /// disabled.
+    fn is_delayed(&self) -> bool
+        ensures { result ≡ delays self.now }
+    {
+        let flags = self.base.flags();
+        flags.handler || !self.due.is_empty() || flags.dispatch_off || flags.di
+    }
+
     /// Dispatching, with a line where the chosen task isn't the current one.
-    #[tactic(auto, unfolding(first_machine::specs::Settle::dispatched))]
+    #[tactic(auto, unfolding(machine_model::specs::Events::Follow::dispatched))]
     pub(crate) fn dispatch(&mut self, step: u32, lines: &mut Vec<Line>) -> Result<(), AllocError>
         ensures state { OnOk result (self.new ≡ (dispatched step self.old).state) }
         ensures lines { OnOk result (lines.new.items ≡ lines.old.items ++ (dispatched step self.old).lines) }
     {
+        if self.is_delayed() {
+            return Ok(());
+        }
         let task = self.base.chosen();
         if self.base.is_current(task) {
             return Ok(());
@@ -186,23 +163,20 @@ impl Kernel {
         Ok(())
     }
 
-    /// What follows an event, which touched so much: settling, the waits that ended, the dispatch.
-    #[tactic(auto, unfolding(first_machine::specs::Settle::followed))]
+    /// What follows an event: settling, the waits that ended, the dispatch.
+    #[tactic(auto, unfolding(machine_model::specs::Events::Follow::followed))]
     pub(crate) fn follow(
         &mut self,
         script: &Script,
+        mode: Mode,
         step: u32,
-        touched: Touched,
         lines: &mut Vec<Line>,
     ) -> Result<(), AllocError>
         requires orderly { IsOrderly self.old.base self.old.objects }
-        requires current { touched ≡ AllButPriorities → AreUpToDate self.old.base }
-        ensures state { OnOk result (self.new ≡ (followed script.now step self.old).state) }
-        ensures lines { OnOk result (lines.new.items ≡ lines.old.items ++ (followed script.now step self.old).lines) }
-        ensures rest { OnOk result (IsAtRest self.new.base self.new.objects) }
+        ensures state { OnOk result (self.new ≡ (followed script.now mode step self.old).state) }
+        ensures lines { OnOk result (lines.new.items ≡ lines.old.items ++ (followed script.now mode step self.old).lines) }
     {
-        self.known_of_tasks();
-        self.settle_after(touched);
+        self.settle(mode);
         self.follow_releases(script, step, lines)?;
         self.dispatch(step, lines)?;
         Ok(())

@@ -1,18 +1,17 @@
 //! What is done at a step.
 
-ghost use Rattle.std.specs.Prelude.{◌≡◌, ◌<◌, ◌^◌, ◌++◌, IfOk, OnOk};
+ghost use Rattle.std.specs.Prelude.{◌≡◌, ◌<◌, ◌≤◌, ◌+◌, ◌^◌, ◌++◌, IfOk, OnOk, length, nat_le};
 ghost use Rattle.std.specs.Bool.{◌==◌};
-ghost use Rattle.kernel_model.specs.Bodies.Statements.{IsRunnable};
-ghost use Rattle.first_machine.specs.Step.{counted, done_at, end_after, end_lines, has_tick, is_paced, is_quiet, paced, worked};
-ghost use Rattle.first_machine.specs.Settle.{Event};
-ghost use Rattle.first_machine.specs.Rest.{AreUpToDate, IsAtRest};
-ghost use Rattle.tk_kernel.specs.declared.running.Touched.TheVariants.{AllButPriorities, Nothing};
-ghost use Rattle.first_machine.specs.Waits.{IsOrderly};
+ghost use Rattle.std.specs.List.{list_any};
+ghost use Rattle.machine_model.specs.Events.Rest.{IsAtRest};
+ghost use Rattle.machine_model.specs.Runs.Step.{end_after, has_event, is_paced, is_quiet, made_pending, paced, worked};
+ghost use Rattle.machine_model.specs.States.Waits.{IsOrderly};
+ghost use Rattle.step_lemmas.specs.Built.{IsBuilt};
+ghost use Rattle.step_lemmas.specs.Pace.{end_lines};
 
 use crate::kernel::Kernel;
-use crate::running::Touched;
 use std::alloc::AllocError;
-use tk_types::{End, LastLine, Line, Script};
+use tk_types::{End, LastLine, Line, Mode, Script};
 
 /// Whether a tick becomes pending at a step: the script's pace divides its number.
 fn is_paced(pace: Option<u32>, step: u32) -> bool
@@ -55,94 +54,88 @@ pub(crate) fn push_end(
     Ok(())
 }
 
+/// Whether an interrupt of a step or a later one is to come.
+fn has_interrupt(script: &Script, step: u32) -> bool
+    ensures { result ≡ list_any (λ irq. nat_le step irq.step) script.now.irqs }
+{
+    'interrupts: for irq in script.irqs.as_slice() {
+        if step <= irq.step {
+            return true;
+        }
+    }
+    false
+}
+
 impl Kernel {
-    /// Whether nothing can be done: no tick is pending, no task is ready, and nothing is set for a time.
+    /// Whether nothing can be done now: no handler runs or is due, no tick and no interrupt is pending, and no task is
+    /// ready.
     pub(crate) fn is_quiet(&self) -> bool
         ensures { result ≡ is_quiet self.now }
     {
-        self.ticks == 0 && self.base.chosen() == 0 && !self.base.has_event()
+        !self.base.flags().handler
+            && self.due.is_empty()
+            && self.ticks == 0
+            && self.pending.is_empty()
+            && self.base.chosen() == 0
     }
 
-    /// Whether a pending tick may be done.
-    fn has_tick(&self) -> bool
-        ensures { result ≡ has_tick self.now }
+    /// Whether something is set for a time, or an interrupt of a step or a later one is to come.
+    pub(crate) fn has_event(&self, script: &Script, step: u32) -> bool
+        ensures { result ≡ has_event script.now step self.now }
     {
-        self.ticks > 0 && !self.base.flags().di
+        self.base.has_event() || has_interrupt(script, step)
     }
 
     /// A tick becomes pending where the step is one of the pace.
     fn set_pace(&mut self, script: &Script, step: u32)
         requires { self.old.ticks < 2 ^ 31 }
-        ensures paced { self.new ≡ paced script.now step self.old }
-        ensures base { self.new.base ≡ self.old.base }
-        ensures objects { self.new.objects ≡ self.old.objects }
+        ensures { self.new ≡ paced script.now step self.old }
     {
         if is_paced(script.pace, step) {
             self.ticks += 1;
         }
     }
 
-    /// What is done at a step: a pending tick, the statement of the current task, or an idle tick. The answer is what it
-    /// touched of what the kernel keeps of tasks and objects.
-    #[tactic(auto, unfolding(first_machine::specs::Step::done_at))]
-    fn do_step(
-        &mut self,
-        script: &Script,
-        step: u32,
-        lines: &mut Vec<Line>,
-    ) -> Result<Touched, AllocError>
-        requires runnable { IsRunnable script.now }
-        requires few { self.old.base.made < 2 ^ 63 }
-        requires early { self.old.base.time < 2 ^ 63 }
-        requires orderly { IsOrderly self.old.base self.old.objects }
-        requires rest { IsAtRest self.old.base self.old.objects }
-        ensures state { OnOk result (self.new ≡ (done_at script.now step self.old).state) }
-        ensures lines { OnOk result (lines.new.items ≡ lines.old.items ++ (done_at script.now step self.old).lines) }
-        ensures rest { IfOk result (λ touched. touched ≡ Nothing → IsAtRest self.new.base self.new.objects) }
-        ensures current { IfOk result (λ touched. touched ≡ AllButPriorities → AreUpToDate self.new.base) }
+    /// What a step makes pending: its interrupts, and a tick where it is one of the pace.
+    fn make_pending(&mut self, script: &Script, step: u32) -> Result<(), AllocError>
+        requires { self.old.ticks < 2 ^ 31 }
+        ensures { OnOk result (self.new ≡ made_pending script.now step self.old) }
     {
-        if self.has_tick() {
-            self.ticks -= 1;
-            self.tick(step, lines)?;
-            return Ok(Touched::All);
-        }
-        let task = self.running();
-        if task == 0 {
-            self.tick(step, lines)?;
-            return Ok(Touched::All);
-        }
-        self.run(script, step, task, lines)
+        self.request_all(script, step)?;
+        self.set_pace(script, step);
+        Ok(())
     }
 
-    /// What is done at a step, with all that follows it: where it touched nothing, nothing does.
-    #[tactic(auto, unfolding(first_machine::specs::Step::worked))]
+    /// What is done at a step, with all that follows it: where it was a statement from which nothing follows, nothing does.
+    #[tactic(auto, unfolding(machine_model::specs::Runs::Step::worked))]
     pub(crate) fn work(
         &mut self,
         script: &Script,
+        mode: Mode,
         step: u32,
         lines: &mut Vec<Line>,
     ) -> Result<(), AllocError>
-        requires runnable { IsRunnable script.now }
-        requires few { self.old.base.made < 2 ^ 63 }
-        requires early { self.old.base.time < 2 ^ 63 }
-        requires orderly { IsOrderly self.old.base self.old.objects }
-        requires rest { IsAtRest self.old.base self.old.objects }
+        requires built { IsBuilt script.now }
+        requires few { self.old.base.made + length self.old.base.events < 2 ^ 63 }
+        requires early { self.old.base.time + 1 < 2 ^ 63 }
         requires ticks { self.old.ticks < 2 ^ 31 }
-        ensures state { OnOk result (self.new ≡ (worked script.now step self.old).state) }
-        ensures lines { OnOk result (lines.new.items ≡ lines.old.items ++ (worked script.now step self.old).lines) }
-        ensures rest { OnOk result (IsAtRest self.new.base self.new.objects) }
+        requires orderly { IsOrderly self.old.base self.old.objects }
+        requires rest { IsAtRest mode self.old }
+        ensures state { OnOk result (self.new ≡ (worked script.now mode step self.old).state) }
+        ensures lines { OnOk result (lines.new.items ≡ lines.old.items ++ (worked script.now mode step self.old).lines) }
     {
         self.known_of_tasks();
-        self.set_pace(script, step);
-        let touched = self.do_step(script, step, lines)?;
-        if touched == Touched::Nothing {
+        self.make_pending(script, step)?;
+        let turn = self.turn();
+        let follows = self.do_turn(script, mode, step, turn, lines)?;
+        if !follows {
             return Ok(());
         }
-        self.follow(script, step, touched, lines)
+        self.follow(script, mode, step, lines)?;
+        Ok(())
     }
 
     /// Counts a step, and ends the run after `halt` or at its budget.
-    #[tactic(auto, unfolding(first_machine::specs::Step::counted))]
     pub(crate) fn count(
         &mut self,
         budget: u32,

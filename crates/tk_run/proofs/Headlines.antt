@@ -1,49 +1,55 @@
 -- The outcome of a command gives the headline: what was read is spelled.
-use Rattle.std.proofs.Common.{◌≡◌, ℕ, List, Option, Some, inl, inr, refl}
+use Rattle.std.proofs.Common.{◌≡◌, ℕ, List, [], Option, Some, inl, inr, refl}
 use Rattle.tk_types.specs.declared.script.Reading.{Reading}
 use Rattle.tk_types.specs.declared.script.Reading.TheVariants as readings
 use Rattle.tk_types.specs.declared.run.Mode.{Mode}
-use Rattle.tk_types.specs.declared.run.End.{End}
-use Rattle.tk_types.specs.declared.run.End.TheVariants as ends
-use Rattle.first_machine.specs.Trace.{trace}
+use Rattle.tk_types.specs.declared.line.LastLine.{LastLine}
+use Rattle.tk_types.specs.declared.line.LastLine.TheVariants as lasts
+use Rattle.machine_model.specs.Runs.Trace.{trace}
 use Rattle.tk_run.specs.declared.command.Command.TheVariants.{Run, Check}
 use Rattle.tk_run.specs.declared.status.Status.{Status}
 use Rattle.tk_run.specs.declared.status.Status.TheVariants as statuses
 use Rattle.tk_run.specs.Readings.{reading_all, reading_of}
-use Rattle.tk_run.specs.Outcomes.{check_outcome, printed_outcome, reading_outcome, run_outcome, status_of_end}
-use Rattle.tk_run.specs.Answers.{OutcomeAnswers, HeadlineAnswers, IsDone}
+use Rattle.tk_run.specs.Outcomes.{check_outcome, printed_outcome, reading_outcome, run_outcome, status_of_last}
+use Rattle.tk_run.specs.Answers.{OutcomeAnswers, HeadlineAnswers, IsDone, IsPastReading}
 use Rattle.tk_run.proofs.Readings.{all_spelled, spelled}
 
 -- ---- of `run`
 
-done_end : (end : End) → status_of_end end ≡ statuses.Done → IsDone end
-done_end ends.Idle is = inl refl
-done_end ends.Halt is = inr refl
-done_end ends.Budget is = absurd (cc)
+done_last : (last : LastLine) → status_of_last last ≡ statuses.Done → IsDone last
+done_last lasts.Idle is = inl refl
+done_last lasts.Halt is = inr refl
+done_last lasts.Budget is = absurd (cc)
+done_last lasts.Starved is = absurd (cc)
+done_last (lasts.Unfit entry) is = absurd (cc)
 
-budget_end : (end : End) → status_of_end end ≡ statuses.Budget → end ≡ ends.Budget
-budget_end ends.Idle is = absurd (cc)
-budget_end ends.Halt is = absurd (cc)
-budget_end ends.Budget is = refl
+budget_last : (last : LastLine) → status_of_last last ≡ statuses.Budget → last ≡ lasts.Budget
+budget_last lasts.Idle is = absurd (cc)
+budget_last lasts.Halt is = absurd (cc)
+budget_last lasts.Budget is = refl
+budget_last lasts.Starved is = absurd (cc)
+budget_last (lasts.Unfit entry) is = absurd (cc)
 
-read_headline : (mode : Mode) (budget : ℕ) (input : List ℕ) (old new : Option (List ℕ)) (reading : Reading) (status : Status) → reading_of input ≡ reading
+read_headline : (mode : Mode) (budget : ℕ) (input : List ℕ) (old new : Option (List ℕ)) (reading : Reading) (status : Status) → reading_of input ≡ reading → IsPastReading status
     → OutcomeAnswers (reading_outcome mode budget reading) old new status → HeadlineAnswers (Some (Run mode budget)) input old new status
-read_headline mode budget input old new (readings.Script script) statuses.Done is answers =
-    (script, spelled input script is, done_end (trace script mode budget).end answers.0, answers.1)
-read_headline mode budget input old new (readings.Script script) statuses.Budget is answers =
-    (script, spelled input script is, budget_end (trace script mode budget).end answers.0, answers.1)
-read_headline mode budget input old new (readings.Refused line why) statuses.Done is answers = absurd (cc (answers.0))
-read_headline mode budget input old new (readings.Refused line why) statuses.Budget is answers = absurd (cc (answers.0))
-read_headline mode budget input old new _ (statuses.Refused line why) is answers = tt
-read_headline mode budget input old new _ statuses.ReadFault is answers = tt
-read_headline mode budget input old new _ statuses.WriteFault is answers = tt
-read_headline mode budget input old new _ statuses.NoMemory is answers = tt
-read_headline mode budget input old new _ statuses.Usage is answers = tt
+read_headline mode budget input old new (readings.Script script) statuses.Done is past answers =
+    (script, spelled input script is, done_last (trace script mode budget []).last answers.0, answers.1)
+read_headline mode budget input old new (readings.Script script) statuses.Budget is past answers =
+    (script, spelled input script is, budget_last (trace script mode budget []).last answers.0, answers.1)
+read_headline mode budget input old new (readings.Refused line why) statuses.Done is past answers = absurd (cc (answers.0))
+read_headline mode budget input old new (readings.Refused line why) statuses.Budget is past answers = absurd (cc (answers.0))
+read_headline mode budget input old new _ statuses.Starved is past answers = past
+read_headline mode budget input old new _ (statuses.Unfit entry) is past answers = past
+read_headline mode budget input old new _ (statuses.Refused line why) is past answers = tt
+read_headline mode budget input old new _ statuses.ReadFault is past answers = tt
+read_headline mode budget input old new _ statuses.WriteFault is past answers = tt
+read_headline mode budget input old new _ statuses.NoMemory is past answers = tt
+read_headline mode budget input old new _ statuses.Usage is past answers = tt
 
-pub run_headline : (mode : Mode) (budget : ℕ) (input : List ℕ) (old new : Option (List ℕ)) (status : Status)
+pub run_headline : (mode : Mode) (budget : ℕ) (input : List ℕ) (old new : Option (List ℕ)) (status : Status) → IsPastReading status
     → OutcomeAnswers (run_outcome mode budget input) old new status → HeadlineAnswers (Some (Run mode budget)) input old new status
 unfolding run_outcome
-run_headline mode budget input old new status answers = read_headline mode budget input old new (reading_of input) status refl answers
+run_headline mode budget input old new status past answers = read_headline mode budget input old new (reading_of input) status refl past answers
 
 -- ---- of `check`
 
@@ -53,6 +59,10 @@ form_headline input old new (readings.Script script) statuses.Done is answers = 
 form_headline input old new (readings.Script script) statuses.Budget is answers = absurd (cc (answers.0))
 form_headline input old new (readings.Refused line why) statuses.Done is answers = absurd (cc (answers.0))
 form_headline input old new (readings.Refused line why) statuses.Budget is answers = absurd (cc (answers.0))
+form_headline input old new (readings.Script script) statuses.Starved is answers = absurd (cc (answers.0))
+form_headline input old new (readings.Refused line why) statuses.Starved is answers = absurd (cc (answers.0))
+form_headline input old new (readings.Script script) (statuses.Unfit entry) is answers = absurd (cc (answers.0))
+form_headline input old new (readings.Refused line why) (statuses.Unfit entry) is answers = absurd (cc (answers.0))
 form_headline input old new _ (statuses.Refused line why) is answers = tt
 form_headline input old new _ statuses.ReadFault is answers = tt
 form_headline input old new _ statuses.WriteFault is answers = tt

@@ -1,4 +1,5 @@
 pub mod Budgets
+pub mod Built
 pub mod Headlines
 pub mod Readings
 pub mod Runs

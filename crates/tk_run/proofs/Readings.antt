@@ -4,7 +4,6 @@ use Rattle.std.proofs.lemmas.List.{take_all, length-take-le}
 use Rattle.std.proofs.lemmas.Bool.{lt-ltb}
 use Rattle.std.proofs.lemmas.Bool.Decides.{leb_tells}
 use Rattle.tk_types.specs.declared.script.Script.{Script}
-use Rattle.tk_types.specs.declared.script.Reading.{Reading}
 use Rattle.tk_types.specs.declared.script.Reading.TheVariants as readings
 use Rattle.tk_types.specs.declared.why.Why.TheVariants.{Long}
 use Rattle.tk_model.specs.ScriptText.{Spells}
@@ -15,7 +14,7 @@ use Rattle.tk_script.specs.Built.{reading_built, resolved_built}
 use Rattle.tk_script.specs.Reading.{answer, reading}
 use Rattle.tk_script.specs.Resolving.{◌>>=◌, resolved}
 use Rattle.tk_script.proofs.Readings.{built_found, reading_takes}
-use Rattle.tk_run.specs.Readings.{IsRunnableReading, reading_all, reading_of}
+use Rattle.tk_run.specs.Readings.{reading_all, reading_of}
 
 -- ---- the limit
 
@@ -61,7 +60,3 @@ all_spelled text script is = reading_takes text script (script_was_read (reading
 -- what is spelled can be run
 pub spelled_runs : (text : List ℕ) (script : Script) → Spells text script → IsRunnable script
 spelled_runs text script is = record { few_devices = is.script_is.few_devices; least_priority = is.script_is.boot_priority.0; most_priority = is.script_is.boot_priority.1 }
-
-pub reading_runs : (text : List ℕ) (reading : Reading) → reading ≡ reading_of text → IsRunnableReading reading
-reading_runs text (readings.Script script) is = spelled_runs text script (spelled text script (sym is))
-reading_runs text (readings.Refused line why) is = tt

@@ -5,7 +5,7 @@ use Rattle.tk_run.specs.declared.command.Command.{Command}
 use Rattle.tk_run.specs.declared.command.Command.TheVariants.{Run, Check}
 use Rattle.tk_run.specs.declared.status.Status.{Status}
 use Rattle.tk_run.specs.Commands.{command_of}
-use Rattle.tk_run.specs.Answers.{HeadlineAnswers, OutcomeAnswers}
+use Rattle.tk_run.specs.Answers.{HeadlineAnswers, IsPastReading, OutcomeAnswers}
 use Rattle.tk_run.specs.Outcomes.{Outcome, check_outcome, command_outcome, outcome_of, printed_outcome, reading_outcome, run_outcome}
 use Rattle.tk_run.proofs.Headlines.{check_headline, run_headline}
 use Rattle.tk_run.proofs.Readings.{reading_all_front, reading_of_front}
@@ -35,11 +35,11 @@ pub told_outcome : (left : Option (List ℕ)) (outcome : List ℕ → Outcome) (
 told_outcome left outcome text P decides read holds =
     told_then left (λ input. text ≡ take (1048576 + 1) input) (λ input. P (outcome input)) (λ input is. rw (sym (decides text input is)) holds) read
 
-pub told_run_headline : (left : Option (List ℕ)) (mode : Mode) (budget : ℕ) (old new : Option (List ℕ)) (status : Status)
+pub told_run_headline : (left : Option (List ℕ)) (mode : Mode) (budget : ℕ) (old new : Option (List ℕ)) (status : Status) → IsPastReading status
     → IfSome left (λ input. OutcomeAnswers (run_outcome mode budget input) old new status) → IfSome left (λ input. HeadlineAnswers (Some (Run mode budget)) input old new status)
-told_run_headline left mode budget old new status =
+told_run_headline left mode budget old new status past =
     told_then left (λ input. OutcomeAnswers (run_outcome mode budget input) old new status) (λ input. HeadlineAnswers (Some (Run mode budget)) input old new status)
-    (λ input. run_headline mode budget input old new status)
+    (λ input. run_headline mode budget input old new status past)
 
 pub told_check_headline : (left old new : Option (List ℕ)) (status : Status)
     → IfSome left (λ input. OutcomeAnswers (check_outcome input) old new status) → IfSome left (λ input. HeadlineAnswers (Some Check) input old new status)

@@ -1,11 +1,11 @@
 -- What holds with each answer of the calls of this crate: of the bytes that a sink took, and of the causes.
-use Rattle.std.specs.Prelude.{◌≡◌, ◌⊎◌, ℕ, List, Option, Some, None}
+use Rattle.std.specs.Prelude.{◌≡◌, ◌⊎◌, ℕ, List, [], Option, Some, None}
 use Rattle.tk_types.specs.declared.script.Script.{Script}
 use Rattle.tk_types.specs.declared.run.Mode.{Mode}
-use Rattle.tk_types.specs.declared.run.End.{End}
-use Rattle.tk_types.specs.declared.run.End.TheVariants as ends
+use Rattle.tk_types.specs.declared.line.LastLine.{LastLine}
+use Rattle.tk_types.specs.declared.line.LastLine.TheVariants as lasts
 use Rattle.tk_ports.specs.Streams.{Appends, AppendsFront}
-use Rattle.first_machine.specs.Trace.{trace}
+use Rattle.machine_model.specs.Runs.Trace.{lines_of, trace}
 use Rattle.tk_model.specs.LineText.{text_of_lines}
 use Rattle.tk_run.specs.declared.command.Command.{Command}
 use Rattle.tk_run.specs.declared.command.Command.TheVariants.{Run, Check}
@@ -19,12 +19,14 @@ abbrev pub OutcomeAnswers : Outcome → Option (List ℕ) → Option (List ℕ) 
 OutcomeAnswers outcome old new statuses.Done = (outcome.status ≡ statuses.Done) × Appends old new outcome.bytes
 OutcomeAnswers outcome old new statuses.Budget = (outcome.status ≡ statuses.Budget) × Appends old new outcome.bytes
 OutcomeAnswers outcome old new (statuses.Refused line why) = (outcome.status ≡ statuses.Refused line why) × Appends old new outcome.bytes
+OutcomeAnswers outcome old new statuses.Starved = (outcome.status ≡ statuses.Starved) × Appends old new outcome.bytes
+OutcomeAnswers outcome old new (statuses.Unfit entry) = (outcome.status ≡ statuses.Unfit entry) × Appends old new outcome.bytes
 OutcomeAnswers outcome old new statuses.Usage = (outcome.status ≡ statuses.Usage) × Appends old new outcome.bytes
 OutcomeAnswers outcome old new statuses.ReadFault = new ≡ old
 OutcomeAnswers outcome old new statuses.WriteFault = AppendsFront old new outcome.bytes
 OutcomeAnswers outcome old new statuses.NoMemory = AppendsFront old new outcome.bytes
 
--- the same of a run that is only written
+-- the same of a run that is only written; it needs no ending
 abbrev pub RunAnswers : Outcome → Option (List ℕ) → Option (List ℕ) → Status → Type 0
 RunAnswers outcome old new statuses.Done = (outcome.status ≡ statuses.Done) × Appends old new outcome.bytes
 RunAnswers outcome old new statuses.Budget = (outcome.status ≡ statuses.Budget) × Appends old new outcome.bytes
@@ -37,34 +39,39 @@ pub record IsCertain (status : Status) (faults faults_now : ℕ) (answer : Statu
   pub answer_is : (answer ≡ status) ⊎ (answer ≡ statuses.NoMemory)
   pub no_fault : faults_now ≡ faults
 
--- the input spells a script, and the sink took the text of its trace, whose end is one of these
-abbrev pub WritesTrace : Mode → ℕ → List ℕ → Option (List ℕ) → Option (List ℕ) → (End → Type 0) → Type 0
+-- the input spells a script, and the sink took the text of its trace, whose last line is one of these
+abbrev pub WritesTrace : Mode → ℕ → List ℕ → Option (List ℕ) → Option (List ℕ) → (LastLine → Type 0) → Type 0
 WritesTrace mode budget input old new IsEnd =
-    (script : Script) × Spells input script × IsEnd (trace script mode budget).end × Appends old new (text_of_lines (trace script mode budget).lines)
+    (script : Script) × Spells input script × IsEnd (trace script mode budget []).last × Appends old new (text_of_lines (lines_of (trace script mode budget [])))
 
 -- the input spells a script, and the sink took its printed form
 abbrev pub WritesPrinted : List ℕ → Option (List ℕ) → Option (List ℕ) → Type 0
 WritesPrinted input old new = (script : Script) × Spells input script × Appends old new (printed script)
 
-abbrev pub IsDone : End → Type 0
-IsDone end = (end ≡ ends.Idle) ⊎ (end ≡ ends.Halt)
+abbrev pub IsDone : LastLine → Type 0
+IsDone last = (last ≡ lasts.Idle) ⊎ (last ≡ lasts.Halt)
 
--- what stands behind `Done` and `Budget`, said by what a text spells and not by how it is read
+-- what stands behind `Done` and `Budget`, said by what a text spells and not by how it is read; no command that there is
+-- answers that an ending is missing or isn't fit
 abbrev pub HeadlineAnswers : Option Command → List ℕ → Option (List ℕ) → Option (List ℕ) → Status → Type 0
 HeadlineAnswers (Some (Run mode budget)) input old new statuses.Done = WritesTrace mode budget input old new IsDone
-HeadlineAnswers (Some (Run mode budget)) input old new statuses.Budget = WritesTrace mode budget input old new (λ end. end ≡ ends.Budget)
+HeadlineAnswers (Some (Run mode budget)) input old new statuses.Budget = WritesTrace mode budget input old new (λ last. last ≡ lasts.Budget)
 HeadlineAnswers (Some Check) input old new statuses.Done = WritesPrinted input old new
 HeadlineAnswers (Some Check) input old new statuses.Budget = ⊥
 HeadlineAnswers None input old new statuses.Done = ⊥
 HeadlineAnswers None input old new statuses.Budget = ⊥
+HeadlineAnswers _ input old new statuses.Starved = ⊥
+HeadlineAnswers _ input old new (statuses.Unfit entry) = ⊥
 HeadlineAnswers _ input old new _ = Unit {0}
 
 -- words that are no command are answered so, and nothing is read
 abbrev pub IsUsage : Status → Type 0
 IsUsage answer = (answer ≡ statuses.Usage) ⊎ (answer ≡ statuses.WriteFault)
 
--- the answers that may come once the input was read
+-- the answers that may come once the input was read, where no endings are fed
 abbrev pub IsPastReading : Status → Type 0
 IsPastReading statuses.ReadFault = ⊥
 IsPastReading statuses.Usage = ⊥
+IsPastReading statuses.Starved = ⊥
+IsPastReading (statuses.Unfit entry) = ⊥
 IsPastReading _ = Unit {0}

@@ -1,15 +1,15 @@
 -- What the program has to write and to answer, for its words and its input.
-use Rattle.std.specs.Prelude.{ℕ, List, ◌++◌, Option, Some, None, codes, decimal}
+use Rattle.std.specs.Prelude.{ℕ, List, ◌++◌, [], Option, Some, None, codes, decimal}
 use Rattle.tk_types.specs.declared.script.Script.{Script}
 use Rattle.tk_types.specs.declared.script.Reading.{Reading}
 use Rattle.tk_types.specs.declared.script.Reading.TheVariants as readings
 use Rattle.tk_types.specs.declared.run.Mode.{Mode}
-use Rattle.tk_types.specs.declared.run.End.{End}
-use Rattle.tk_types.specs.declared.run.End.TheVariants as ends
+use Rattle.tk_types.specs.declared.line.LastLine.{LastLine}
+use Rattle.tk_types.specs.declared.line.LastLine.TheVariants as lasts
 use Rattle.tk_types.specs.declared.why.Why.{Why}
 use Rattle.tk_types.specs.Reasons.{why_text}
 use Rattle.tk_model.specs.ScriptText.{printed}
-use Rattle.first_machine.specs.Trace.{Trace, trace}
+use Rattle.machine_model.specs.Runs.Trace.{Trace, lines_of, trace}
 use Rattle.tk_model.specs.LineText.{text_of_lines}
 use Rattle.tk_run.specs.declared.command.Command.{Command}
 use Rattle.tk_run.specs.declared.command.Command.TheVariants.{Run, Check}
@@ -30,16 +30,20 @@ number_of (statuses.Refused line why) = 2
 number_of statuses.ReadFault = 3
 number_of statuses.WriteFault = 4
 number_of statuses.NoMemory = 5
+number_of statuses.Starved = 7
+number_of (statuses.Unfit entry) = 8
 number_of statuses.Usage = 64
 
 -- a run that ended by itself is done
-abbrev pub status_of_end : End → Status
-status_of_end ends.Idle = statuses.Done
-status_of_end ends.Halt = statuses.Done
-status_of_end ends.Budget = statuses.Budget
+abbrev pub status_of_last : LastLine → Status
+status_of_last lasts.Idle = statuses.Done
+status_of_last lasts.Halt = statuses.Done
+status_of_last lasts.Budget = statuses.Budget
+status_of_last lasts.Starved = statuses.Starved
+status_of_last (lasts.Unfit entry) = statuses.Unfit entry
 
 abbrev pub trace_outcome : Trace → Outcome
-trace_outcome run = record { status = status_of_end run.end; bytes = text_of_lines run.lines }
+trace_outcome run = record { status = status_of_last run.last; bytes = text_of_lines (lines_of run) }
 
 -- `refused LINE WHY`
 unfoldable pub refusal_text : ℕ → Why → List ℕ
@@ -48,9 +52,9 @@ refusal_text line why = codes "refused " ++ decimal line ++ codes " " ++ why_tex
 abbrev pub refusal_outcome : ℕ → Why → Outcome
 refusal_outcome line why = record { status = statuses.Refused line why; bytes = refusal_text line why }
 
--- the run of what was read, or its refusal
+-- the run of what was read, which is fed with no endings, or its refusal
 abbrev pub reading_outcome : Mode → ℕ → Reading → Outcome
-reading_outcome mode budget (readings.Script script) = trace_outcome (trace script mode budget)
+reading_outcome mode budget (readings.Script script) = trace_outcome (trace script mode budget [])
 reading_outcome mode budget (readings.Refused line why) = refusal_outcome line why
 
 unfoldable pub run_outcome : Mode → ℕ → List ℕ → Outcome

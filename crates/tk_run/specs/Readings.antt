@@ -2,7 +2,7 @@
 use Rattle.std.specs.Prelude.{ℕ, List}
 use Rattle.tk_types.specs.declared.script.Reading.{Reading}
 use Rattle.tk_types.specs.declared.script.Reading.TheVariants as readings
-use Rattle.kernel_model.specs.Bodies.Statements.{IsRunnable}
+use Rattle.step_lemmas.specs.Built.{IsBuilt}
 use Rattle.tk_script.specs.Reading.{answer, reading}
 use Rattle.tk_script.specs.Built.{reading_built}
 
@@ -15,6 +15,6 @@ unfoldable pub reading_all : List ℕ → Reading
 reading_all text = answer (reading text)
 
 -- a script that was read can be run
-abbrev pub IsRunnableReading : Reading → Type 0
-IsRunnableReading (readings.Script script) = IsRunnable script
-IsRunnableReading (readings.Refused line why) = Unit {0}
+abbrev pub IsBuiltReading : Reading → Type 0
+IsBuiltReading (readings.Script script) = IsBuilt script
+IsBuiltReading (readings.Refused line why) = Unit {0}

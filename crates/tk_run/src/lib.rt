@@ -3,7 +3,11 @@
 
 mod checking;
 mod command;
+#[cfg(test)]
+mod context_runs;
 mod entry;
+#[cfg(test)]
+mod mutex_runs;
 mod refusal;
 mod run;
 mod running;
@@ -14,6 +18,8 @@ mod status;
 mod task_runs;
 #[cfg(test)]
 mod tests;
+#[cfg(test)]
+mod time_runs;
 mod turn;
 
 pub use checking::check_script;

@@ -5,7 +5,7 @@ ghost use Rattle.tk_ports.specs.Streams.{CountsWithin, Rose, TakesWithin};
 ghost use Rattle.tk_run.specs.Answers.{HeadlineAnswers, IsCertain, IsPastReading, OutcomeAnswers};
 ghost use Rattle.tk_run.specs.Commands.{IsBudget};
 ghost use Rattle.tk_run.specs.Outcomes.{reading_outcome, run_outcome};
-ghost use Rattle.tk_run.specs.Readings.{IsRunnableReading, reading_of};
+ghost use Rattle.tk_run.specs.Readings.{IsBuiltReading, reading_of};
 ghost use Rattle.tk_run.specs.declared.command.Command.TheVariants.{Run};
 
 use crate::LONGEST_SCRIPT;
@@ -19,10 +19,10 @@ use tk_script::read_built_script;
 use tk_types::{Mode, OutOfMemory, Reading};
 
 /// What a text is read as to be run: a script whose lines are all built, or a refusal.
-#[tactic(auto, unfolding(crate::specs::Readings::reading_of), using(crate::proofs::Readings::reading_runs))]
+#[tactic(auto, unfolding(crate::specs::Readings::reading_of))]
 fn reading_of(alloc: Global, text: &[u8]) -> Result<Reading, OutOfMemory>
     ensures exact { IfOk result (λ reading. reading ≡ reading_of text.now) }
-    ensures runnable { IfOk result IsRunnableReading }
+    ensures built { IfOk result IsBuiltReading }
 {
     read_built_script(alloc, text)
 }
@@ -35,7 +35,7 @@ fn run_reading<K: Sink>(
     budget: u32,
     sink: &mut K,
 ) -> Status
-    requires runnable { IsRunnableReading reading }
+    requires built { IsBuiltReading reading }
     requires steps { IsBudget budget }
     ensures outcome { OutcomeAnswers (reading_outcome mode budget reading) (K.held sink.old) (K.held sink.new) result }
     ensures past_reading { IsPastReading result }

@@ -5,7 +5,8 @@ ghost use Rattle.tk_run.specs.Outcomes.{number_of};
 
 use tk_types::Why;
 
-/// How a call ended.
+/// How a call ended. `Starved` and `Unfit` are ends of runs that are fed with the endings of requests, which no
+/// command does yet.
 #[derive(Clone, Copy, Debug, PartialEq, Eq)]
 pub enum Status {
     /// The run ended by itself, with nothing left to do or by `halt`.
@@ -20,6 +21,10 @@ pub enum Status {
     WriteFault,
     /// The host's memory ran out.
     NoMemory,
+    /// The run needs the ending of a request, and no entry is left that gives it.
+    Starved,
+    /// The entry with that number, from 1 on, gives an ending that isn't fit at its place.
+    Unfit { entry: u32 },
     /// The words are no command.
     Usage,
 }
@@ -36,6 +41,8 @@ impl Status {
             Status::ReadFault => 3,
             Status::WriteFault => 4,
             Status::NoMemory => 5,
+            Status::Starved => 7,
+            Status::Unfit { .. } => 8,
             Status::Usage => 64,
         }
     }

@@ -30,13 +30,13 @@ const LOOSE: &[u8] =
 
 const PLAIN: &[u8] = b"utk 1\nboot main 10\nbody main task\nsay hello\nend\n";
 
-const INTERRUPTED: &[u8] = b"utk 1\npace 7\nirq 1 1\nboot main 10\nbody main task\nnop\nend\n";
+const WITH_DEVICE: &[u8] =
+    b"utk 1\ndevice d0 ram 16\npace 7\nirq 1 1\nboot main 10\nbody main task\nnop\nend\n";
 
 const LATER: &[u8] =
-    b"utk 1\n# note\nboot main 10\nbody main task\nsay a\ntk_cre_mtx  - 0\nhalt\nend\n";
+    b"utk 1\n# note\nboot main 10\nbody main task\nsay a\ntk_cre_mbx  -\nhalt\nend\n";
 
-const LATER_FORM: &[u8] =
-    b"utk 1\nboot main 10\nbody main task\nsay a\ntk_cre_mtx - 0\nhalt\nend\n";
+const LATER_FORM: &[u8] = b"utk 1\nboot main 10\nbody main task\nsay a\ntk_cre_mbx -\nhalt\nend\n";
 
 const OPEN_BODY: &[u8] = b"utk 1\nboot main 10\nbody main task\ntk_ext_tsk\n";
 
@@ -142,7 +142,7 @@ fn other_inputs_are_refused(rt: HostRuntime) -> Result<(), Fail> {
 #[test]
 fn unbuilt_lines_are_refused(rt: HostRuntime) -> Result<(), Fail> {
     for (input, line, text) in [
-        (INTERRUPTED, 3, b"refused 3 later\n".as_slice()),
+        (WITH_DEVICE, 2, b"refused 2 later\n".as_slice()),
         (LATER, 6, b"refused 6 later\n".as_slice()),
     ] {
         let (status, output) = outcome(rt.alloc(), "run", input)?;
@@ -164,7 +164,7 @@ fn scripts_are_printed(rt: HostRuntime) -> Result<(), Fail> {
     for (input, form) in [
         (LOOSE, PLAIN),
         (HELLO, HELLO),
-        (INTERRUPTED, INTERRUPTED),
+        (WITH_DEVICE, WITH_DEVICE),
         (LATER, LATER_FORM),
     ] {
         let (status, output) = outcome(rt.alloc(), "check", input)?;

@@ -27,6 +27,7 @@ pub(crate) enum Turn {
 pub(crate) fn take_turn<K: Sink>(machine: &mut Machine, text: &mut Vec<u8>, sink: &mut K) -> Turn
     ensures answer { TurnAnswers machine.old machine.new (K.held sink.old) (K.held sink.new) result }
     ensures write_fault { result ≡ Turn.WriteFault → Rose (K.faulted sink.old) (K.faulted sink.new) }
+    ensures unwritten { result ≡ Turn.NoMemory → sink.new ≡ sink.old }
     ensures faults_stay { K.faulted sink.old ≤ K.faulted sink.new }
 
     // Lines that surely have room are written.

@@ -52,7 +52,7 @@ reading_is text script = (reading_takes text script, reading_again text script)
 pub spells_one : (text : List ℕ) (one other : Script) → Spells text one → Spells text other → one ≡ other
 spells_one text one other first second = sure_is one other (sym (reading_again text one first) ∙ reading_again text other second)
 
-answer_ok : (read : Result Script Refusal) (script : Script) → answer read ≡ readings.Script script → read ≡ Ok script
+pub answer_ok : (read : Result Script Refusal) (script : Script) → answer read ≡ readings.Script script → read ≡ Ok script
 answer_ok (Err refusal) script e = absurd (cc)
 answer_ok (Ok other) script e = cc
 

@@ -21,8 +21,8 @@ use Rattle.tk_script.specs.declared.built.TheConstants.{DEVICES_ARE_BUILT, PACE_
 -- bodies of that kind
 unfoldable pub is_built_kind : BodyKind → Bool
 is_built_kind Task = true
-is_built_kind Hand = false
-is_built_kind Svc = false
+is_built_kind Hand = true
+is_built_kind Svc = true
 
 -- the calls on tasks
 unfoldable pub is_task_call : CallName → Bool
@@ -61,13 +61,51 @@ is_sem_flag_call calls.TkDelSem = true
 is_sem_flag_call calls.TkDelFlg = true
 is_sem_flag_call _ = false
 
+-- the calls on mutexes
+unfoldable pub is_mutex_call : CallName → Bool
+is_mutex_call calls.TkCreMtx = true
+is_mutex_call calls.TkLocMtx = true
+is_mutex_call calls.TkUnlMtx = true
+is_mutex_call calls.TkRefMtx = true
+is_mutex_call calls.TkDelMtx = true
+is_mutex_call _ = false
+
+-- the calls on time, cyclic and alarm handlers
+unfoldable pub is_time_call : CallName → Bool
+is_time_call calls.TkSetTim = true
+is_time_call calls.TkGetTim = true
+is_time_call calls.TkGetOtm = true
+is_time_call calls.TkCreCyc = true
+is_time_call calls.TkStaCyc = true
+is_time_call calls.TkStpCyc = true
+is_time_call calls.TkDelCyc = true
+is_time_call calls.TkRefCyc = true
+is_time_call calls.TkCreAlm = true
+is_time_call calls.TkStaAlm = true
+is_time_call calls.TkStpAlm = true
+is_time_call calls.TkDelAlm = true
+is_time_call calls.TkRefAlm = true
+is_time_call _ = false
+
+-- the calls on interrupts, on what delays dispatching, and on subsystems
+unfoldable pub is_context_call : CallName → Bool
+is_context_call calls.TkDefInt = true
+is_context_call calls.TkDisDsp = true
+is_context_call calls.TkEnaDsp = true
+is_context_call calls.Di = true
+is_context_call calls.Ei = true
+is_context_call calls.TkRefSys = true
+is_context_call calls.TkDefSsy = true
+is_context_call calls.TkRefSsy = true
+is_context_call calls.Svc = true
+is_context_call _ = false
+
 -- calls: those of these families
 abbrev pub is_built_call : CallName → Bool
-is_built_call name = is_task_call name || is_sem_flag_call name
+is_built_call name = is_task_call name || is_sem_flag_call name || is_mutex_call name || is_time_call name || is_context_call name
 
--- statements: all but the return of a handler or a service
+-- statements: all but the calls of other families
 unfoldable pub is_built_stmt : Head → Bool
-is_built_stmt heads.Return = false
 is_built_stmt (heads.Call name) = is_built_call name
 is_built_stmt _ = true
 

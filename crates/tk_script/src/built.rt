@@ -1,7 +1,7 @@
 //! What isn't built yet. This file and `specs/Built.antt` are the one place that says how much is.
 
 ghost use Rattle.std.specs.Prelude.{◌≡◌, length, drop};
-ghost use Rattle.tk_script.specs.Built.{first_some, first_unbuilt, is_built_call, is_built_item, is_built_kind, is_built_stmt, is_sem_flag_call, is_task_call, unbuilt_bodies, unbuilt_body, unbuilt_header, unbuilt_item, unless_built};
+ghost use Rattle.tk_script.specs.Built.{first_some, first_unbuilt, is_built_call, is_built_item, is_built_kind, is_built_stmt, is_context_call, is_mutex_call, is_sem_flag_call, is_task_call, is_time_call, unbuilt_bodies, unbuilt_body, unbuilt_header, unbuilt_item, unless_built};
 
 use crate::numbers::{behind, behind_body, boot_numbers, first_number, pace_count};
 use tk_raw::{Head, RawBody, RawItem, RawScript};
@@ -12,7 +12,7 @@ const DEVICES_ARE_BUILT: bool = false;
 
 const PACE_IS_BUILT: bool = true;
 
-const INTERRUPTS_ARE_BUILT: bool = false;
+const INTERRUPTS_ARE_BUILT: bool = true;
 
 /// Whether bodies of that kind are built.
 #[tactic(auto, unfolding(crate::specs::Built::is_built_kind))]
@@ -21,8 +21,8 @@ fn is_built_kind(kind: BodyKind) -> bool
 {
     match kind {
         BodyKind::Task => true,
-        BodyKind::Hand => false,
-        BodyKind::Svc => false,
+        BodyKind::Hand => true,
+        BodyKind::Svc => true,
     }
 }
 
@@ -75,11 +75,72 @@ fn is_sem_flag_call(name: CallName) -> bool
     }
 }
 
+/// Whether it is a call on a mutex.
+#[tactic(auto, unfolding(crate::specs::Built::is_mutex_call))]
+fn is_mutex_call(name: CallName) -> bool
+    ensures { result ≡ is_mutex_call name }
+{
+    match name {
+        CallName::TkCreMtx
+        | CallName::TkLocMtx
+        | CallName::TkUnlMtx
+        | CallName::TkRefMtx
+        | CallName::TkDelMtx => true,
+        _ => false,
+    }
+}
+
+/// Whether it is a call on time, or on a cyclic or an alarm handler.
+#[tactic(auto, unfolding(crate::specs::Built::is_time_call))]
+fn is_time_call(name: CallName) -> bool
+    ensures { result ≡ is_time_call name }
+{
+    match name {
+        CallName::TkSetTim
+        | CallName::TkGetTim
+        | CallName::TkGetOtm
+        | CallName::TkCreCyc
+        | CallName::TkStaCyc
+        | CallName::TkStpCyc
+        | CallName::TkDelCyc
+        | CallName::TkRefCyc
+        | CallName::TkCreAlm
+        | CallName::TkStaAlm
+        | CallName::TkStpAlm
+        | CallName::TkDelAlm
+        | CallName::TkRefAlm => true,
+        _ => false,
+    }
+}
+
+/// Whether it is a call on interrupts, on what delays dispatching, or on a subsystem.
+#[tactic(auto, unfolding(crate::specs::Built::is_context_call))]
+fn is_context_call(name: CallName) -> bool
+    ensures { result ≡ is_context_call name }
+{
+    match name {
+        CallName::TkDefInt
+        | CallName::TkDisDsp
+        | CallName::TkEnaDsp
+        | CallName::Di
+        | CallName::Ei
+        | CallName::TkRefSys
+        | CallName::TkDefSsy
+        | CallName::TkRefSsy
+        | CallName::Svc => true,
+        _ => false,
+    }
+}
+
 /// Whether a call is built.
 fn is_built_call(name: CallName) -> bool
     ensures { result ≡ is_built_call name }
 {
-    is_task_call(name) || is_sem_flag_call(name)
+    is_task_call(name)
+        || is_sem_flag_call(name)
+        || is_mutex_call(name)
+        || is_time_call(name)
+        || is_context_call(name)
 }
 
 /// Whether a statement is built.
@@ -88,7 +149,6 @@ fn is_built_stmt(head: Head) -> bool
     ensures { result ≡ is_built_stmt head }
 {
     match head {
-        Head::Return => false,
         Head::Call(name) => is_built_call(name),
         _ => true,
     }

@@ -5,6 +5,7 @@ ghost use Rattle.tk_types.specs.declared.script.Script.{Script};
 ghost use Rattle.tk_types.specs.declared.script.Reading.TheVariants as readings;
 ghost use Rattle.tk_model.specs.ScriptText.{Spells};
 ghost use Rattle.tk_script.specs.Built.{first_unbuilt, reading_built, resolved_built, when_built};
+ghost use Rattle.tk_script.specs.BuiltScripts.{IsBuilt};
 ghost use Rattle.tk_script.specs.Reading.{answer, reading};
 ghost use Rattle.tk_script.specs.Resolving.{AreShort, resolved};
 
@@ -92,6 +93,7 @@ fn answer_built_text(alloc: Global, text: &[u8]) -> Result<Reading, OutOfMemory>
 pub fn read_built_script(alloc: Global, text: &[u8]) -> Result<Reading, OutOfMemory>
     ensures exact { IfOk result (λ read. read ≡ answer (reading_built text.now)) }
     ensures found { IfOk result (λ read. (script : Script) → read ≡ readings.Script script → Spells text.now script) }
+    ensures built { IfOk result (λ read. (script : Script) → read ≡ readings.Script script → IsBuilt script) }
 {
     answer_built_text(alloc, text)
 }

@@ -122,7 +122,7 @@ fn lines_and_texts_have_a_limit(rt: HostRuntime) -> Result<(), Fail> {
 #[test]
 fn the_first_line_not_built_is_told(rt: HostRuntime) -> Result<(), Fail> {
     let alloc = rt.alloc();
-    let cases: [(&str, Option<(u32, Why)>); 10] = [
+    let cases: [(&str, Option<(u32, Why)>); 11] = [
         (
             "utk 1\nboot main 10\nbody main task\ntk_cre_tsk TA_ASM main 5 r1\nldb r2 0\nlabel on\njump on\ntk_dly_tsk 2\nshow 3\ntk_ref_tsk 1\nhalt\nend\n",
             None,
@@ -140,27 +140,31 @@ fn the_first_line_not_built_is_told(rt: HostRuntime) -> Result<(), Fail> {
             Some((2, Why::Later)),
         ),
         (
-            "utk 1\n\npace 1\nirq 1 1\nboot main 10\nbody main task\nend\n",
-            Some((4, Why::Later)),
+            "utk 1\n\npace 1\nirq 1 1\nboot main 10\nbody main task\ntk_def_int 1 h\nend\nbody h hand\nreturn 0\nend\n",
+            None,
         ),
         (
-            "utk 1\nirq 1 1\nboot main 10\nbody main task\nend\n",
-            Some((2, Why::Later)),
+            "utk 1\nboot main 10\nbody main task\ntk_cre_mtx - 0\ntk_cre_alm - h\nDI\nend\nbody h hand\nend\n",
+            None,
         ),
         (
-            "utk 1\nboot main 10\nbody main task\nlabel a\n# note\ntk_cre_mtx - 0\nend\n",
+            "utk 1\nboot main 10\nbody main task\ntk_def_ssy 1 s\nsvc 1 0\nend\nbody s svc\nreturn r1\nend\n",
+            None,
+        ),
+        (
+            "utk 1\nboot main 10\nbody main task\nlabel a\n# note\ntk_cre_mbx -\nend\n",
             Some((6, Why::Later)),
         ),
         (
-            "utk 1\nboot main 10\nbody main task\nend\nbody h hand\nend\n",
+            "utk 1\nboot main 10\nbody main task\ntk_cre_mtx - 0\ntk_cre_mpl - 64\nend\n",
             Some((5, Why::Later)),
         ),
         (
-            "utk 1\nboot main 10\nbody main task\nend\nbody other task\nDI\nend\n",
-            Some((6, Why::Later)),
+            "utk 1\nirq 1 1\nboot main 10\nbody main task\nend\nbody h hand\ntd_hok_int 1\nend\n",
+            Some((7, Why::Later)),
         ),
         (
-            "utk 1\npace 1\nboot main 10\nbody main task\njump x\nend\n",
+            "utk 1\ndevice a log\nboot main 10\nbody main task\njump x\nend\n",
             Some((5, Why::Unknown)),
         ),
     ];

@@ -1,6 +1,9 @@
-use Rattle.std.proofs.Common.{◌≡◌, replicate}
-use Rattle.first_machine.specs.State.{no_frame}
+use Rattle.std.proofs.Common.{◌≡◌, length, replicate}
+use Rattle.machine_model.specs.States.State.{no_frame}
 use Rattle.tk_kernel.proofs.kernel.no_frames.Given as goal
 
 abbrev pub invariant-slots : goal.invariant-slots
-invariant-slots l = l.frames.items ≡ replicate l._task no_frame
+invariant-slots l = record {
+  none : l.frames.items ≡ replicate l._place no_frame;
+  all : length l.frames.items ≡ l._place;
+}

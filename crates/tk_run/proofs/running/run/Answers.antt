@@ -11,7 +11,7 @@ returns-clause-outcome g c =
     (run_decides c.args.mode c.args.budget) (rw c.deref.ensures.value c.in-Ok.ensures.whole) c.run_text.ensures.outcome
 
 pub returns-clause-headline : goal.returns-clause-headline
-returns-clause-headline g c = told_run_headline _ c.args.mode c.args.budget _ _ _ (returns-clause-outcome g c)
+returns-clause-headline g c = told_run_headline _ c.args.mode c.args.budget _ _ _ c.run_text.ensures.past_reading (returns-clause-outcome g c)
 
 pub returns-clause-complete : goal.returns-clause-complete
 returns-clause-complete g c = λ sound.

@@ -1,7 +1,7 @@
 use Rattle.std.proofs.Common.{◌∙◌, sym}
-use Rattle.first_machine.specs.Settle.{with_releases}
+use Rattle.machine_model.specs.Events.Follow.{with_releases}
 use Rattle.tk_kernel.specs.contracts.kernel.Kernel.{the_view}
-use Rattle.tk_kernel.proofs.Following.{followed_more, followed_all, fewer_left}
+use Rattle.step_lemmas.proofs.Following.{followed_more, followed_all, fewer_left}
 use Rattle.tk_kernel.proofs.kernel.Kernel.follow_releases.Goals as goal
 
 pub releases-smaller : goal.releases-smaller

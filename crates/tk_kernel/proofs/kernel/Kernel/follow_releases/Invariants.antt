@@ -1,6 +1,6 @@
 use Rattle.std.proofs.Common.{◌≡◌, ◌++◌, length}
-use Rattle.first_machine.specs.Settle.{with_releases}
-use Rattle.tk_kernel.proofs.Following.{left_to_follow}
+use Rattle.machine_model.specs.Events.Follow.{with_releases}
+use Rattle.step_lemmas.proofs.Following.{left_to_follow}
 use Rattle.tk_kernel.proofs.kernel.Kernel.follow_releases.Given as goal
 
 -- what is left to follow comes to what all comes to, behind the lines so far

@@ -1,6 +1,13 @@
-use Rattle.tk_kernel.proofs.Going.{called_current}
+use Rattle.step_lemmas.proofs.Endings.{call_orderly, ended_small, told_lines}
 use Rattle.tk_kernel.proofs.kernel.Kernel.make_call.Goals as goal
 
-pub returns-clause-current : goal.returns-clause-current
-returns-clause-current c =
-    called_current c.args.step c.args.self.now c.family_call-outcome.new.self c.take_answer.new.self c.args.task c.args.call.now _ c.requires.rest c.family_call-outcome.ensures c.take_answer.ensures
+pub end_holdings-requires : goal.end_holdings-requires
+end_holdings-requires c = record {
+  orderly = call_orderly c.args.self.now c.family_call.new.self c.args.actor c.args.call.now _ c.known_of_tasks.ensures.places c.known_of_tasks.ensures.none c.requires.orderly c.in_ok-outcome.ensures;
+  task = ended_small c.args.self.now c.family_call.new.self c.args.actor c.args.call.now _ c.ranges.actor.fits c.in_ok-outcome.ensures;
+}
+
+pub returns-clause-lines : goal.returns-clause-lines
+returns-clause-lines c =
+    told_lines c.args.mode c.args.step c.args.self.now c.family_call.new.self c.args.actor c.args.call.now _ c.name.result c.args.lines.now.items _ c.known_of_tasks.ensures.none c.in_ok-outcome.ensures c.name.ensures
+    c.in_ok-push_call_line.ensures

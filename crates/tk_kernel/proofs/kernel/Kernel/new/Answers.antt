@@ -1,6 +1,7 @@
-use Rattle.std.proofs.Common.{◌∙◌}
-use Rattle.tk_kernel.proofs.Going.{started}
+use Rattle.step_lemmas.proofs.Starting.{started}
 use Rattle.tk_kernel.proofs.kernel.Kernel.new.Goals as goal
 
 pub returns : goal.returns
-returns c = started c.args.script.now _ _ _ _ _ _ _ c.base.view_is c.in_ok-base.ensures (c.sem_flags.view_is ∙ c.in_ok-sem_flags.ensures) c.in_ok-bodies.ensures c.in_ok-frames.ensures c.start_frame.ensures c.in_ok-new_memory.ensures
+returns c =
+    started c.args.script.now _ _ _ _ _ _ _ _ _ _ _ c.new-2.ensures.items c.new-3.ensures.items c.requires.none c.in_ok-base.ensures c.in_ok-objects.ensures.sem_flags c.in_ok-objects.ensures.mutexes c.in_ok-objects.ensures.clocks
+    c.in_ok-objects.ensures.contexts c.in_ok-tables.ensures.bodies c.in_ok-tables.ensures.frames c.in_ok-tables.ensures.saved c.in_ok-memory.ensures

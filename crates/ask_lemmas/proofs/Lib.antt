@@ -1,0 +1,14 @@
+pub mod Asks
+pub mod Asked
+pub mod TaskAsks
+pub mod TimeContexts
+pub mod SemFlagAsks
+pub mod MutexAsks
+pub mod PoolAsks
+pub mod LongMemory
+pub mod MailAsks
+pub mod Passing
+pub mod DeviceAsks
+pub mod WholeMemory
+pub mod WholeWalk
+pub mod ReachedAsked

@@ -1,0 +1,16 @@
+pub mod Making
+pub mod Tasks
+pub mod SemFlags
+pub mod Mutexes
+pub mod Mails
+pub mod Pools
+pub mod Times
+pub mod Contexts
+pub mod Devices
+pub mod Few
+pub mod Settled
+pub mod Events
+pub mod Ticks
+pub mod Makes
+pub mod Steps
+pub mod Runs

@@ -1,0 +1,11 @@
+pub mod Blocks
+pub mod Ending
+pub mod Firsts
+pub mod Fixed
+pub mod Keeping
+pub mod Looking
+pub mod Placing
+pub mod Slots
+pub mod Starting
+pub mod Tables
+pub mod Waiting

@@ -1,0 +1,4 @@
+pub mod Blocks
+pub mod Tables
+pub mod Taking
+pub mod Parts

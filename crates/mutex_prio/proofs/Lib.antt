@@ -1,0 +1,11 @@
+pub mod Alike
+pub mod Carried
+pub mod Ending
+pub mod Firsts
+pub mod Folded
+pub mod Keeping
+pub mod Looking
+pub mod Rooms
+pub mod Starting
+pub mod Tables
+pub mod Walked

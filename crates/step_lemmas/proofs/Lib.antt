@@ -1,0 +1,10 @@
+pub mod Sound
+pub mod Orders
+pub mod Servings
+pub mod Endings
+pub mod Falling
+pub mod Following
+pub mod Still
+pub mod Pending
+pub mod Starting
+pub mod Going

@@ -1,0 +1,237 @@
+-- From a statement that is no call, no return and no end of a body nothing follows: nobody can be served who couldn't before,
+-- since servings only write the script's memory.
+use Rattle.std.proofs.Common.{◌≡◌, ℕ, ◌+◌, Bool, true, false, cond, List, [], ◌∷◌, ◌++◌, Option, Some, None, refl, sym, ◌∙◌, ap, subst, drop, append_assoc, append-nil}
+use Rattle.tk_types.specs.declared.line.Line.{Line}
+use Rattle.tk_types.specs.declared.run.Frame.{Frame}
+use Rattle.tk_types.specs.declared.run.Mode.{Mode}
+use Rattle.tk_types.specs.declared.run.Mode.TheVariants as modes
+use Rattle.tk_types.specs.declared.script.Script.{Script}
+use Rattle.kernel_model.specs.Words.Orders.{taken_from}
+use Rattle.kernel_model.specs.Tasks.Base.{fifo_queue}
+use Rattle.object_model.specs.declared.mails.Message.{Message}
+use Rattle.object_model.specs.Mails.Tables.{Mailbox, MailParts, MessageBuffer, box_at, buffer_at, bytes_of}
+use Rattle.object_model.specs.Mails.Boxes.{box_serves, box_waiters, serve_box, serve_box_at, serve_mailboxes}
+use Rattle.object_model.specs.Mails.Buffers.{buffer_serves, first_of, has_space, receivers, senders, serve_buffer, serve_buffer_at, serve_buffers}
+use Rattle.device_model.specs.Devices.Endings.{DevParts}
+use Rattle.device_model.specs.Devices.Handing.{any_given, suspension_object}
+use Rattle.device_model.specs.Devices.Servings.{serve_suspension, suspended_unless, suspension_by}
+use Rattle.machine_model.specs.States.Objects.{Parts, dev_parts, kinds, mail_parts, serve_object}
+use Rattle.machine_model.specs.States.State.{State, parts_of}
+use Rattle.machine_model.specs.Events.Follow.{Event, behind, followed}
+use Rattle.machine_model.specs.Events.Rest.{IsAtRest}
+use Rattle.machine_model.specs.Events.Settle.{handed}
+use Rattle.machine_model.specs.Runs.Step.{is_paced, made_pending, worked}
+use Rattle.machine_model.specs.Events.Handlers.{insert_once, requested, with_requests}
+use Rattle.context_model.specs.Contexts.Tables.{handler_of}
+use Rattle.tk_types.specs.declared.script.Interrupt.{Interrupt}
+use Rattle.std.specs.Bool.{◌==◌}
+use Rattle.std.specs.Prelude.{filter, fold}
+use Rattle.machine_model.specs.Runs.Turns.{done_turn, turn_of}
+use Rattle.machine_lemmas.proofs.HandingServes.{AllKinds, each_kind, first_none_by, mapped_none, no_kind, unmapped}
+use Rattle.machine_lemmas.proofs.Rest.{followed_none}
+use Rattle.machine_model.specs.declared.turns.Turn.{Turn}
+use Rattle.machine_model.specs.States.Waits.{IsOrderly}
+use Rattle.kernel_model.specs.Tasks.Waits.{HavePlaces}
+use Rattle.machine_lemmas.proofs.Walk.{kept_first, of_kept}
+use Rattle.order_lemmas.proofs.ReachedOrders.{HasOrders, orders_are_kept}
+use Rattle.step_lemmas.proofs.Sound.{orderly_of, orders_of}
+use Rattle.step_lemmas.specs.Built.{HasNone, no_devices}
+use Rattle.step_lemmas.proofs.Servings.{none_accepted, none_closed, none_ended}
+
+abbrev with_memory : MailParts → List ℕ → MailParts
+with_memory p memory = record p { memory = memory }
+
+box_by : (p : MailParts) (memory : List ℕ) (id : ℕ) (k : Mailbox) (waiters : List ℕ) (messages : List Message) → box_serves p id k waiters messages ≡ None → box_serves (with_memory p memory) id k waiters messages ≡ None
+box_by p memory id k [] messages is = refl
+box_by p memory id k (t ∷ waiters) [] is = refl
+box_by p memory id k (t ∷ waiters) (first ∷ rest) is = absurd (cc is)
+
+box_in : (p : MailParts) (memory : List ℕ) (id : ℕ) (slot : Option Mailbox) → serve_box_at p id slot ≡ None → serve_box_at (with_memory p memory) id slot ≡ None
+box_in p memory id None is = refl
+box_in p memory id (Some k) is = box_by p memory id k (box_waiters p.base k id) k.messages is
+
+boxes_none : (p : MailParts) (memory : List ℕ) → serve_mailboxes p ≡ None → serve_mailboxes (with_memory p memory) ≡ None
+unfolding serve_mailboxes serve_box
+boxes_none p memory is =
+    first_none_by (serve_box p) (serve_box (with_memory p memory)) (taken_from 1 (drop 1 p.table.boxes)) (taken_from 1 (drop 1 p.table.boxes)) refl (λ id none. box_in p memory id (box_at p.table id) none) is
+
+space_if : (fits : Bool) (one other : MailParts) → cond fits (Some one) None ≡ None → cond fits (Some other) None ≡ None
+space_if true one other is = absurd (cc is)
+space_if false one other is = refl
+
+buffer_by : (p : MailParts) (memory : List ℕ) (id : ℕ) (k : MessageBuffer) (receiver sender : Option ℕ) (messages : List (List ℕ)) → buffer_serves p id k receiver sender messages ≡ None → buffer_serves (with_memory p memory) id k receiver sender messages ≡ None
+buffer_by p memory id k (Some receiver) sender (oldest ∷ later) is = absurd (cc is)
+buffer_by p memory id k (Some receiver) (Some sender) [] is = absurd (cc is)
+buffer_by p memory id k (Some receiver) None [] is = refl
+buffer_by p memory id k None (Some sender) messages is = space_if (has_space k (bytes_of p.table sender)) _ _ is
+buffer_by p memory id k None None messages is = refl
+
+buffer_in : (p : MailParts) (memory : List ℕ) (id : ℕ) (slot : Option MessageBuffer) → serve_buffer_at p id slot ≡ None → serve_buffer_at (with_memory p memory) id slot ≡ None
+buffer_in p memory id None is = refl
+buffer_in p memory id (Some k) is = buffer_by p memory id k (first_of (receivers p.base id)) (first_of (senders p.base k id)) k.messages is
+
+buffers_none : (p : MailParts) (memory : List ℕ) → serve_buffers p ≡ None → serve_buffers (with_memory p memory) ≡ None
+unfolding serve_buffers serve_buffer
+buffers_none p memory is =
+    first_none_by (serve_buffer p) (serve_buffer (with_memory p memory)) (taken_from 1 (drop 1 p.table.buffers)) (taken_from 1 (drop 1 p.table.buffers)) refl (λ id none. buffer_in p memory id (buffer_at p.table id) none) is
+
+suspended_by : (any : Bool) (p : DevParts) (memory : List ℕ) (t : ℕ) → suspended_unless any p t ≡ None → suspended_unless any (record p { memory = memory }) t ≡ None
+suspended_by true p memory t is = refl
+suspended_by false p memory t is = absurd (cc is)
+
+suspension_in : (p : DevParts) (memory : List ℕ) (waiters : List ℕ) → suspension_by p waiters ≡ None → suspension_by (record p { memory = memory }) waiters ≡ None
+suspension_in p memory [] is = refl
+suspension_in p memory (t ∷ ts) is = suspended_by (any_given p.table) p memory t is
+
+suspension_none : (p : DevParts) (memory : List ℕ) → serve_suspension p ≡ None → serve_suspension (record p { memory = memory }) ≡ None
+unfolding serve_suspension
+suspension_none p memory is = suspension_in p memory (fifo_queue p.base suspension_object) is
+
+-- where nobody can be served, nobody can be with another memory
+pub memory_unserved : (p : Parts) (memory : List ℕ) → p.objects.devices ≡ no_devices → serve_object p ≡ None → serve_object (record p { memory = memory }) ≡ None
+unfolding serve_object AllKinds
+memory_unserved p memory none is =
+    let all = each_kind kinds p is in
+    let now : Parts = record p { memory = memory } in
+    no_kind kinds now (
+      mapped_none _ _ (unmapped _ _ all.0),
+      (
+        mapped_none _ _ (boxes_none (mail_parts p) memory (unmapped _ _ all.1.0)),
+        (
+          mapped_none _ _ (unmapped _ _ all.1.1.0),
+          (
+            mapped_none _ _ (buffers_none (mail_parts p) memory (unmapped _ _ all.1.1.1.0)),
+            (
+              mapped_none _ _ (unmapped _ _ all.1.1.1.1.0),
+              (
+                mapped_none _ _ (unmapped _ _ all.1.1.1.1.1.0),
+                (
+                  mapped_none _ _ (none_accepted now none),
+                  (
+                    mapped_none _ _ (none_ended now none),
+                    (mapped_none _ _ (none_closed now none), (mapped_none _ _ (suspension_none (dev_parts p) memory (unmapped _ _ all.1.1.1.1.1.1.1.1.1.0)), tt)),
+                  ),
+                ),
+              ),
+            ),
+          ),
+        ),
+      ),
+    )
+
+given_still : (mode : Mode) (p : Parts) (memory : List ℕ) → handed mode p ≡ p → handed mode (record p { memory = memory }) ≡ record p { memory = memory }
+given_still modes.Sync p memory is = refl
+given_still modes.Free p memory is = ap (λ (q : Parts). record q { memory = memory }) is
+
+-- a state at rest stays so when its frames and the script's memory change
+pub still_rest : (mode : Mode) (st : State) (frames : List Frame) (memory : List ℕ) → st.objects.devices ≡ no_devices → IsAtRest mode st → IsAtRest mode (record st { frames = frames; memory = memory })
+still_rest mode st frames memory none rest = record {
+  unserved = memory_unserved (parts_of st) memory none rest.unserved;
+  up_to_date = rest.up_to_date;
+  given = given_still mode (parts_of st) memory rest.given;
+  followed = rest.followed;
+  dispatched = rest.dispatched;
+}
+
+-- the same in the form of the code
+pub still_at_rest : (mode : Mode) (view st now : State) (frames : List Frame) (memory : List ℕ) → view ≡ st → HasNone st → IsAtRest mode st → now ≡ record view { frames = frames; memory = memory } → IsAtRest mode now
+still_at_rest mode view st now frames memory same none rest moved =
+    let here : now ≡ record st { frames = frames; memory = memory } = moved ∙ ap (λ (s : State). record s { frames = frames; memory = memory }) same in
+    subst (IsAtRest mode) (sym here) (still_rest mode st frames memory none.devices rest)
+
+-- each task that waits stands in its order after what is done at a step
+pub done_orderly : (script : Script) (mode : Mode) (n : ℕ) (old ready now : State) (turn : Turn) → HavePlaces old.base → HasNone old → IsOrderly old.base old.objects → ready ≡ made_pending script n old → turn ≡ turn_of ready → now ≡ (done_turn script mode n ready turn).state → IsOrderly now.base now.objects
+done_orderly script mode n old ready now turn places none all at_ready at_turn at_now =
+    let has : HasOrders (parts_of old) = orders_of (parts_of old) places none.devices all in
+    let here : now ≡ (done_turn script mode n (made_pending script n old) (turn_of (made_pending script n old))).state =
+    at_now ∙ ap (λ (t : Turn). (done_turn script mode n ready t).state) at_turn ∙ ap (λ (s : State). (done_turn script mode n s (turn_of s)).state) at_ready in
+    subst (λ (s : State). IsOrderly s.base s.objects) (sym here) (orderly_of _ (kept_first HasOrders (of_kept HasOrders orders_are_kept) script mode n old has))
+
+-- where what was done at a step leaves the state at rest, nothing follows
+rest_is_all : (script : Script) (mode : Mode) (n : ℕ) (old ready now : State) → IsAtRest mode now → ready ≡ made_pending script n old → now ≡ (done_turn script mode n ready (turn_of ready)).state →
+    worked script mode n old ≡ record { state = now; lines = (done_turn script mode n ready (turn_of ready)).lines ++ [] }
+unfolding worked
+rest_is_all script mode n old ready now rest at_ready at_now =
+    ap (λ (st : State). behind (done_turn script mode n st (turn_of st)).lines (followed script mode n (done_turn script mode n st (turn_of st)).state)) (sym at_ready)
+    ∙ ap (λ (st : State). behind (done_turn script mode n ready (turn_of ready)).lines (followed script mode n st)) (sym at_now)
+    ∙ ap (λ (event : Event). behind (done_turn script mode n ready (turn_of ready)).lines event) (followed_none script mode n now rest)
+
+pub rest_state : (script : Script) (mode : Mode) (n : ℕ) (old ready now : State) (turn : Turn) → IsAtRest mode now → ready ≡ made_pending script n old → turn ≡ turn_of ready → now ≡ (done_turn script mode n ready turn).state → now ≡ (worked script mode n old).state
+rest_state script mode n old ready now turn rest at_ready at_turn at_now =
+    sym (ap (λ (event : Event). event.state) (rest_is_all script mode n old ready now rest at_ready (at_now ∙ ap (λ (t : Turn). (done_turn script mode n ready t).state) at_turn)))
+
+pub rest_lines : (script : Script) (mode : Mode) (n : ℕ) (old ready now : State) (turn : Turn) (before after : List Line) → IsAtRest mode now → ready ≡ made_pending script n old → turn ≡ turn_of ready → now ≡ (done_turn script mode n ready turn).state →
+    after ≡ before ++ (done_turn script mode n ready turn).lines → after ≡ before ++ (worked script mode n old).lines
+rest_lines script mode n old ready now turn before after rest at_ready at_turn at_now written =
+    written
+    ∙ ap (λ (t : Turn). before ++ (done_turn script mode n ready t).lines) at_turn
+    ∙ ap (λ (lines : List Line). before ++ lines)
+    (sym (append-nil (done_turn script mode n ready (turn_of ready)).lines) ∙ sym (ap (λ (event : Event). event.lines) (rest_is_all script mode n old ready now rest at_ready (at_now ∙ ap (λ (t : Turn). (done_turn script mode n ready t).state) at_turn))))
+
+-- where something follows, all of it is what the definition says
+pub work_state : (script : Script) (mode : Mode) (n : ℕ) (old ready mid now : State) (turn : Turn) → ready ≡ made_pending script n old → turn ≡ turn_of ready → mid ≡ (done_turn script mode n ready turn).state → now ≡ (followed script mode n mid).state → now ≡ (worked script mode n old).state
+unfolding worked
+work_state script mode n old ready mid now turn at_ready at_turn at_mid at_now =
+    at_now
+    ∙ ap (λ (s : State). (followed script mode n s).state) (at_mid ∙ ap (λ (t : Turn). (done_turn script mode n ready t).state) at_turn)
+    ∙ ap (λ (s : State). (followed script mode n (done_turn script mode n s (turn_of s)).state).state) at_ready
+
+pub work_lines : (script : Script) (mode : Mode) (n : ℕ) (old ready mid : State) (turn : Turn) (before between after : List Line) → ready ≡ made_pending script n old → turn ≡ turn_of ready → mid ≡ (done_turn script mode n ready turn).state →
+    between ≡ before ++ (done_turn script mode n ready turn).lines → after ≡ between ++ (followed script mode n mid).lines → after ≡ before ++ (worked script mode n old).lines
+unfolding worked
+work_lines script mode n old ready mid turn before between after at_ready at_turn at_mid said told =
+    told
+    ∙ ap (λ (ls : List Line). ls ++ (followed script mode n mid).lines) (said ∙ ap (λ (t : Turn). before ++ (done_turn script mode n ready t).lines) at_turn)
+    ∙ append_assoc before (done_turn script mode n ready (turn_of ready)).lines (followed script mode n mid).lines
+    ∙ ap (λ (s : State). before ++ ((done_turn script mode n ready (turn_of ready)).lines ++ (followed script mode n s).lines)) (at_mid ∙ ap (λ (t : Turn). (done_turn script mode n ready t).state) at_turn)
+    ∙ ap (λ (s : State). before ++ ((done_turn script mode n s (turn_of s)).lines ++ (followed script mode n (done_turn script mode n s (turn_of s)).state).lines)) at_ready
+
+-- ---- what a step makes pending
+
+requested_if : (st : State) (test : Bool) (more : List ℕ) → cond test st (record st { pending = more }) ≡ record st { pending = (cond test st (record st { pending = more })).pending }
+requested_if st true more = refl
+requested_if st false more = refl
+
+requested_each : (st : State) (irqs : List Interrupt) → fold (λ before irq. requested before irq.number) st irqs ≡ record st { pending = (fold (λ before irq. requested before irq.number) st irqs).pending }
+requested_each st [] = refl
+requested_each st (irq ∷ irqs) =
+    let one : State = requested st irq.number in
+    let same : one ≡ record st { pending = one.pending } = requested_if st (handler_of st.objects.contexts irq.number == 0) (insert_once irq.number st.pending) in
+    requested_each one irqs ∙ ap (λ (s : State). record s { pending = (fold (λ before irq. requested before irq.number) one irqs).pending }) same
+
+paced_same : (script : Script) (n : ℕ) (st : State) (test : Bool) → cond test (record st { ticks = st.ticks + 1 }) st ≡ record st { ticks = (cond test (record st { ticks = st.ticks + 1 }) st).ticks }
+paced_same script n st true = refl
+paced_same script n st false = refl
+
+-- it changes nothing but what is pending
+pub pending_same : (script : Script) (n : ℕ) (st : State) → made_pending script n st ≡ record st { pending = (made_pending script n st).pending; ticks = (made_pending script n st).ticks }
+unfolding with_requests
+pending_same script n st =
+    let irqs : List Interrupt = filter (λ irq. irq.step == n) script.irqs in
+    let now : State = fold (λ before irq. requested before irq.number) st irqs in
+    let ticked : made_pending script n st ≡ record now { ticks = (made_pending script n st).ticks } = paced_same script n now (is_paced script.pace n) in
+    ticked
+    ∙ ap (λ (s : State). record s { ticks = (made_pending script n st).ticks }) (requested_each st irqs)
+    ∙ ap (λ (pending : List ℕ). record st { pending = pending; ticks = (made_pending script n st).ticks }) (sym (ap (λ (s : State). s.pending) ticked))
+
+pending_rest : (mode : Mode) (st : State) (pending : List ℕ) (ticks : ℕ) → IsAtRest mode st → IsAtRest mode (record st { pending = pending; ticks = ticks })
+pending_rest mode st pending ticks rest = record { unserved = rest.unserved; up_to_date = rest.up_to_date; given = rest.given; followed = rest.followed; dispatched = rest.dispatched }
+
+-- so from a state at rest nothing follows either once something is pending
+pub pending_at_rest : (script : Script) (mode : Mode) (n : ℕ) (st now : State) → IsAtRest mode st → now ≡ made_pending script n st → IsAtRest mode now
+pending_at_rest script mode n st now rest is =
+    subst (IsAtRest mode) (sym (is ∙ pending_same script n st)) (pending_rest mode st (made_pending script n st).pending (made_pending script n st).ticks rest)
+
+pub pending_base : (script : Script) (n : ℕ) (st now : State) → now ≡ made_pending script n st → now.base ≡ st.base
+pending_base script n st now is = ap (λ (s : State). s.base) (is ∙ pending_same script n st)
+
+pub pending_objects : (script : Script) (n : ℕ) (st now : State) → now ≡ made_pending script n st → now.objects ≡ st.objects
+pending_objects script n st now is = ap (λ (s : State). s.objects) (is ∙ pending_same script n st)
+
+pub pending_orderly : (script : Script) (n : ℕ) (st now : State) → IsOrderly st.base st.objects → now ≡ made_pending script n st → IsOrderly now.base now.objects
+pending_orderly script n st now all is = subst (λ (s : State). IsOrderly s.base s.objects) (sym (is ∙ pending_same script n st)) (record { each = all.each })
+
+-- the ticks that are pending stay as they are where only interrupts are requested
+pub requested_ticks : (script : Script) (n : ℕ) (st now : State) → now ≡ with_requests script n st → now.ticks ≡ st.ticks
+unfolding with_requests
+requested_ticks script n st now is = ap (λ (s : State). s.ticks) (is ∙ requested_each st (filter (λ irq. irq.step == n) script.irqs))

@@ -1,0 +1,49 @@
+-- What the kernel does so far: the calls on tasks, semaphores, event flags and mutexes, of time and of contexts, in scripts
+-- without devices.
+use Rattle.std.specs.Prelude.{ℕ, ◌≡◌, Bool, true, false, List, [], ◌∷◌, None, replicate}
+use Rattle.tk_types.specs.declared.calls.Call.{Call}
+use Rattle.tk_types.specs.declared.calls.Call.TheVariants as calls
+use Rattle.tk_types.specs.declared.run.Act.TheVariants as acts
+use Rattle.tk_types.specs.declared.run.Frame.{Frame}
+use Rattle.tk_types.specs.declared.script.Script.{Script}
+use Rattle.kernel_model.specs.Bodies.Statements.{IsRunnable, fetch}
+use Rattle.device_model.specs.declared.rows.Wish.TheVariants.{Nothing}
+use Rattle.device_model.specs.Devices.Tables.{Devices}
+use Rattle.object_model.specs.Mails.Tables.{mails_start}
+use Rattle.object_model.specs.Pools.Tables.{pools_start}
+use Rattle.context_model.specs.Hooks.Tables.{hooks_start}
+use Rattle.machine_model.specs.States.State.{State}
+
+abbrev pub is_built : Call → Bool
+is_built (calls.Mail call) = false
+is_built (calls.Pool call) = false
+is_built (calls.Device call) = false
+is_built (calls.Hook call) = false
+is_built _ = true
+
+-- a script that the machine can run: it has no devices, and asks for these calls alone
+pub record IsBuilt (script : Script) : Type 0 where
+  pub runnable : IsRunnable script
+  pub devices : script.devices ≡ []
+  pub calls : (frame : Frame) (memory : List ℕ) (call : Call) → (fetch script frame memory).act ≡ acts.Call call → is_built call ≡ true
+
+-- the table of devices where there is none
+abbrev pub no_devices : Devices
+no_devices = record {
+  links = None ∷ [];
+  buffers = replicate 9 0;
+  off = 0;
+  opened = replicate 33 None;
+  rows = replicate 65 None;
+  queued = [];
+  ended = [];
+  serial = 0;
+  wishes = replicate 256 Nothing;
+}
+
+-- no object is there of the kinds that aren't built, and no hook is set
+pub record HasNone (st : State) : Type 0 where
+  pub mails : st.objects.mails ≡ mails_start
+  pub pools : st.objects.pools ≡ pools_start
+  pub devices : st.objects.devices ≡ no_devices
+  pub hooks : st.hooks ≡ hooks_start

@@ -1,0 +1,7 @@
+pub mod Built
+pub mod Kinds
+pub mod Freeing
+pub mod Falling
+pub mod Places
+pub mod Pace
+pub mod Budgets

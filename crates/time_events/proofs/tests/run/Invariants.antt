@@ -1,0 +1,9 @@
+use Rattle.std.proofs.Common.{◌≤◌, ◌+◌}
+use Rattle.time_events.proofs.tests.run.Given as goal
+
+-- each call made one event at most
+abbrev pub invariant-calls : goal.invariant-calls
+invariant-calls l = record {
+  few : l.base.made ≤ l.fn.base.made + l.place;
+  early : l.base.time ≤ l.fn.base.time;
+}
