@@ -134,6 +134,13 @@ impl Mails {
         })
     }
 
+    /// States, at no cost, that the table has a place for each task.
+    pub fn known_of_tasks(&self)
+        ensures sending { length self.now.sending ≡ 256 }
+        ensures into { length self.now.into ≡ 256 }
+    {
+    }
+
     /// Where what the table keeps is allocated.
     pub(crate) fn alloc(&self) -> Global {
         self.alloc

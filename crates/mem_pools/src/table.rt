@@ -118,6 +118,12 @@ impl Pools {
         })
     }
 
+    /// States, at no cost, that the table has a place for each task.
+    pub fn known_of_tasks(&self)
+        ensures { length self.now.sizes ≡ 256 }
+    {
+    }
+
     /// How many slots there are for fixed pools, and as many for variable ones: one for each ID, and one for 0.
     #[cfg(test)]
     pub(crate) fn slots(&self) -> u8
