@@ -1,5 +1,7 @@
 pub mod Tables
 pub mod Still
+pub mod Patterns
+pub mod Standing
 pub mod Joined
 pub mod OneKind
 pub mod Settled
