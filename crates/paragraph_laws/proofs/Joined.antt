@@ -36,7 +36,8 @@ pub queue_elsewhere : (b : Base) (t object : ℕ) (order : Order) (timeout : ℤ
 queue_elsewhere b t object order timeout may other apart Fifo = fifo_wait_elsewhere b t object other order timeout apart (ready_for_none b t other may)
 queue_elsewhere b t object order timeout may other apart Priority = priority_wait_elsewhere b t object other order timeout apart (ready_for_none b t other may)
 
-absent_of : (order : Order) (b : Base) (t object : ℕ) → waits_for b object t ≡ false → without t (queue order b object) ≡ queue order b object
+-- a task that doesn't wait for an object isn't in its queue
+pub absent_of : (order : Order) (b : Base) (t object : ℕ) → waits_for b object t ≡ false → without t (queue order b object) ≡ queue order b object
 absent_of Fifo b t object idle = fifo_absent b t object idle
 absent_of Priority b t object idle = priority_absent b t object idle
 
@@ -94,7 +95,7 @@ same_at of b c t k now written at same u =
     ∙ entry_each (λ v o. of o ≡ of (task_at b v)) b.tasks t (Some now) (ap of (entry_there b.tasks t k (Some now) at) ∙ same ∙ ap of (sym at)) (λ v apart. refl) u
 
 -- a row that is alive as before, with the priorities that it had, and that waits for the mutex that it did, if any
-written_keeps : (b c : Base) (t : ℕ) (k now : Task) → c.tasks ≡ slice_set b.tasks t (Some now) → task_at b t ≡ Some k → is_dormant_phase now.phase ≡ is_dormant_phase k.phase →
+pub written_keeps : (b c : Base) (t : ℕ) (k now : Task) → c.tasks ≡ slice_set b.tasks t (Some now) → task_at b t ≡ Some k → is_dormant_phase now.phase ≡ is_dormant_phase k.phase →
     now.base ≡ k.base → now.current ≡ k.current →
     awaited_in_phase now.phase ≡ awaited_in_phase k.phase → KeepsPriorities b c
 written_keeps b c t k now written at lives bases currents awaits = (
