@@ -119,16 +119,18 @@ call_sound st now t call outcome places whole none all is =
 
 -- ---- the line of a call
 
-pub called_lines : (mode : Mode) (n : ℕ) (st now : State) (t : ℕ) (call : Call) (outcome : Outcome) → HasNone st → family_call st t call ≡ record { state = now; outcome = outcome } → (called mode n st t call).lines ≡ call_lines false n t (name_of call) outcome
+pub called_lines : (mode : Mode) (n : ℕ) (st now : State) (t : ℕ) (call : Call) (outcome : Outcome) → family_call st t call ≡ record { state = now; outcome = outcome } → (called mode n st t call).lines ≡ call_lines st.hooks.svc n t (name_of call) outcome
 unfolding called
-called_lines mode n st now t call outcome none is =
-    ap (λ (done : CallDone). call_lines st.hooks.svc n t (name_of call) done.outcome) is ∙ ap (λ (hooks : Hooks). call_lines hooks.svc n t (name_of call) outcome) none.hooks
+called_lines mode n st now t call outcome is = ap (λ (done : CallDone). call_lines st.hooks.svc n t (name_of call) done.outcome) is
 
 -- the lines with it, in the form of the code
-pub told_lines : (mode : Mode) (n : ℕ) (st now : State) (t : ℕ) (call : Call) (outcome : Outcome) (name : CallName) (before after : List Line) → HasNone st → family_call st t call ≡ record { state = now; outcome = outcome } → name ≡ name_of call →
-    after ≡ before ++ call_lines false n t name outcome → after ≡ before ++ (called mode n st t call).lines
-told_lines mode n st now t call outcome name before after none is named written =
-    written ∙ ap (λ (name : CallName). before ++ call_lines false n t name outcome) named ∙ ap (λ (ls : List Line). before ++ ls) (sym (called_lines mode n st now t call outcome none is))
+pub told_lines : (mode : Mode) (n : ℕ) (st now : State) (t : ℕ) (call : Call) (outcome : Outcome) (name : CallName) (hooks : Hooks) (before after : List Line) → hooks ≡ st.hooks → family_call st t call ≡ record { state = now; outcome = outcome } → name ≡ name_of call →
+    after ≡ before ++ call_lines hooks.svc n t name outcome → after ≡ before ++ (called mode n st t call).lines
+told_lines mode n st now t call outcome name hooks before after set is named written =
+    written
+    ∙ ap (λ (name : CallName). before ++ call_lines hooks.svc n t name outcome) named
+    ∙ ap (λ (h : Hooks). before ++ call_lines h.svc n t (name_of call) outcome) set
+    ∙ ap (λ (ls : List Line). before ++ ls) (sym (called_lines mode n st now t call outcome is))
 
 -- ---- settling
 

@@ -2,6 +2,7 @@
 use Rattle.std.proofs.Common.{◌≡◌, ℕ, List, [], ◌∷◌, None, ◌∙◌, ap, sym, pos, false}
 use Rattle.std.specs.Prelude.{map, replicate, slice_set}
 use Rattle.tk_types.specs.declared.run.Frame.{Frame}
+use Rattle.context_model.specs.declared.hook_set.HookSet.{HookSet}
 use Rattle.tk_types.specs.declared.script.Device.{Device}
 use Rattle.tk_types.specs.declared.script.Script.{Script}
 use Rattle.tk_types.specs.declared.task.Event.{Event as DueKind}
@@ -25,8 +26,8 @@ unfolding devices_start
 none_at_start script none = ap {A = List Device} (λ list. record no_devices { links = None ∷ map link_start list }) none
 
 -- a state with these parts that doesn't run yet
-abbrev idle : Base → Objects → List ℕ → List Frame → List Frame → List ℕ → State
-idle b o bodies frames saved memory = record { base = b; objects = o; bodies = bodies; frames = frames; saved = saved; memory = memory; due = []; pending = []; ticks = 0; hooks = hooks_start; halted = false; steps = 0 }
+abbrev idle : Base → Objects → List ℕ → List Frame → List Frame → List ℕ → HookSet → State
+idle b o bodies frames saved memory hooks = record { base = b; objects = o; bodies = bodies; frames = frames; saved = saved; memory = memory; due = []; pending = []; ticks = 0; hooks = hooks; halted = false; steps = 0 }
 
 abbrev objects_of : SemFlags → Mutexes → Mails → Pools → Clocks → Contexts → Devices → Objects
 objects_of s m b p k c d = record { sem_flags = s; mutexes = m; mails = b; pools = p; clocks = k; contexts = c; devices = d }
@@ -42,21 +43,22 @@ objects_same script s m b p k c none at_s at_m at_b at_p at_k at_c =
     ∙ ap (λ (x : Contexts). objects_of sem_flags_start mutexes_start mails_start pools_start clocks_start x no_devices) at_c
     ∙ ap (λ (x : Devices). objects_of sem_flags_start mutexes_start mails_start pools_start clocks_start contexts_start x) (sym (none_at_start script none))
 
-pub started : (script : Script) (b : Base) (s : SemFlags) (m : Mutexes) (mails : Mails) (pools : Pools) (k : Clocks) (c : Contexts) (bodies : List ℕ) (frames saved : List Frame) (memory : List ℕ) (due : List DueKind) (pending : List ℕ) → due ≡ [] → pending ≡ [] →
+pub started : (script : Script) (b : Base) (s : SemFlags) (m : Mutexes) (mails : Mails) (pools : Pools) (k : Clocks) (c : Contexts) (bodies : List ℕ) (frames saved : List Frame) (memory : List ℕ) (due : List DueKind) (pending : List ℕ) (hooks : HookSet) → due ≡ [] → pending ≡ [] →
     script.devices ≡ [] → b ≡ base_start script.boot.priority → s ≡ sem_flags_start → m ≡ mutexes_start → mails ≡ mails_start → pools ≡ pools_start → k ≡ clocks_start → c ≡ contexts_start → bodies ≡ slice_set (replicate 256 0) 1 script.boot.body →
-    frames ≡ slice_set (replicate 256 no_frame) 1 (start_frame script.boot.body (pos 0) (pos 0)) → saved ≡ replicate 2048 no_frame → memory ≡ replicate memory_size 0 →
-    record { base = b; objects = record { sem_flags = s; mutexes = m; mails = mails; pools = pools; clocks = k; contexts = c; devices = no_devices }; bodies = bodies; frames = frames; saved = saved; memory = memory; due = due; pending = pending; ticks = 0; hooks = hooks_start; halted = false; steps = 0 } ≡ state_start script
+    frames ≡ slice_set (replicate 256 no_frame) 1 (start_frame script.boot.body (pos 0) (pos 0)) → saved ≡ replicate 2048 no_frame → memory ≡ replicate memory_size 0 → hooks ≡ hooks_start →
+    record { base = b; objects = record { sem_flags = s; mutexes = m; mails = mails; pools = pools; clocks = k; contexts = c; devices = no_devices }; bodies = bodies; frames = frames; saved = saved; memory = memory; due = due; pending = pending; ticks = 0; hooks = hooks; halted = false; steps = 0 } ≡ state_start script
 unfolding state_start
-started script b s m mails pools k c bodies frames saved memory due pending no_due no_pending none at_b at_s at_m at_mails at_pools at_k at_c at_bodies at_frames at_saved empty =
+started script b s m mails pools k c bodies frames saved memory due pending hooks no_due no_pending none at_b at_s at_m at_mails at_pools at_k at_c at_bodies at_frames at_saved empty unset =
     let first : List Frame = slice_set (replicate 256 no_frame) 1 (start_frame script.boot.body (pos 0) (pos 0)) in
     let made : List ℕ = slice_set (replicate 256 0) 1 script.boot.body in
     let objects : Objects = objects_of sem_flags_start mutexes_start mails_start pools_start clocks_start contexts_start (devices_start script) in
     let given : Objects = objects_of s m mails pools k c no_devices in
-    ap (λ (x : List DueKind). record (idle b given bodies frames saved memory) { due = x; pending = pending }) no_due
-    ∙ ap (λ (x : List ℕ). record (idle b given bodies frames saved memory) { pending = x }) no_pending
-    ∙ ap (λ (x : Base). idle x given bodies frames saved memory) at_b
-    ∙ ap (λ (x : Objects). idle (base_start script.boot.priority) x bodies frames saved memory) (objects_same script s m mails pools k c none at_s at_m at_mails at_pools at_k at_c)
-    ∙ ap (λ (x : List ℕ). idle (base_start script.boot.priority) objects x frames saved memory) at_bodies
-    ∙ ap (λ (x : List Frame). idle (base_start script.boot.priority) objects made x saved memory) at_frames
-    ∙ ap (λ (x : List Frame). idle (base_start script.boot.priority) objects made first x memory) at_saved
-    ∙ ap (λ (x : List ℕ). idle (base_start script.boot.priority) objects made first (replicate 2048 no_frame) x) empty
+    ap (λ (x : List DueKind). record (idle b given bodies frames saved memory hooks) { due = x; pending = pending }) no_due
+    ∙ ap (λ (x : List ℕ). record (idle b given bodies frames saved memory hooks) { pending = x }) no_pending
+    ∙ ap (λ (x : Base). idle x given bodies frames saved memory hooks) at_b
+    ∙ ap (λ (x : Objects). idle (base_start script.boot.priority) x bodies frames saved memory hooks) (objects_same script s m mails pools k c none at_s at_m at_mails at_pools at_k at_c)
+    ∙ ap (λ (x : List ℕ). idle (base_start script.boot.priority) objects x frames saved memory hooks) at_bodies
+    ∙ ap (λ (x : List Frame). idle (base_start script.boot.priority) objects made x saved memory hooks) at_frames
+    ∙ ap (λ (x : List Frame). idle (base_start script.boot.priority) objects made first x memory hooks) at_saved
+    ∙ ap (λ (x : List ℕ). idle (base_start script.boot.priority) objects made first (replicate 2048 no_frame) x hooks) empty
+    ∙ ap (λ (x : HookSet). idle (base_start script.boot.priority) objects made first (replicate 2048 no_frame) (replicate memory_size 0) x) unset

@@ -9,7 +9,6 @@ use Rattle.tk_types.specs.declared.script.Script.{Script}
 use Rattle.kernel_model.specs.Bodies.Statements.{IsRunnable, fetch}
 use Rattle.device_model.specs.declared.rows.Wish.TheVariants.{Nothing}
 use Rattle.device_model.specs.Devices.Tables.{Devices}
-use Rattle.context_model.specs.Hooks.Tables.{hooks_start}
 use Rattle.machine_model.specs.States.State.{State}
 
 abbrev pub is_built : Call → Bool
@@ -37,7 +36,6 @@ no_devices = record {
   wishes = replicate 256 Nothing;
 }
 
--- there is no device, and no hook is set
+-- there is no device
 pub record HasNone (st : State) : Type 0 where
   pub devices : st.objects.devices ≡ no_devices
-  pub hooks : st.hooks ≡ hooks_start

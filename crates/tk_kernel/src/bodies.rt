@@ -11,12 +11,13 @@ ghost use Rattle.machine_model.specs.States.State.{save_place, saved_frame};
 ghost use Rattle.context_model.specs.Contexts.Tables.{depth_in};
 ghost use Rattle.machine_model.specs.Events.Bodies.{begun, body_returned, entered, handler_ended, noted, returned, undefined, with_body, with_start, withdrawn};
 
+use crate::hooking::push_hooked;
 use crate::kernel::Kernel;
 use kernel_base::answers::plain;
 use kernel_base::{Event, Flags};
 use std::alloc::AllocError;
 use task_machine::{give, start_frame};
-use tk_types::{Call, CallName, ContextCall, Frame, Line, TaskCall, TimeCall};
+use tk_types::{Call, CallName, ContextCall, Frame, Hook, Line, TaskCall, TimeCall};
 
 /// Whether an event is the start of the cyclic handler with an ID.
 fn is_cyclic(id: u32, what: Event) -> bool
@@ -170,13 +171,18 @@ impl Kernel {
         give(&mut frame, &answer);
         self.set_frame(task, frame);
         contexts::left(&mut self.contexts, task, false);
-        lines.push(Line::Returned {
+        let is_hooked = self.hooks().svc;
+        let hook = Hook::Service {
+            who: task,
+            call: CallName::Svc,
+        };
+        let line = Line::Returned {
             step,
             who: task,
             call: CallName::Svc,
             answer,
-        })?;
-        Ok(())
+        };
+        push_hooked(lines, is_hooked, step, hook, line)
     }
 
     /// The handler that runs has ended.

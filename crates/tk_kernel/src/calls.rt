@@ -7,11 +7,12 @@ ghost use Rattle.machine_model.specs.States.State.{who_of};
 ghost use Rattle.step_lemmas.specs.Built.{is_built};
 ghost use Rattle.step_lemmas.specs.Sound.{IsSound};
 
+use crate::hooking::push_hooked;
 use crate::kernel::Kernel;
 use kernel_base::answers::failed;
 use std::alloc::AllocError;
 use task_machine::give;
-use tk_types::{Call, CallName, ContextCall, Er, Line, Mode, Outcome, Who};
+use tk_types::{Call, CallName, ContextCall, Er, Hook, Line, Mode, Outcome, Who};
 
 /// Who acts in the frame with a number: the running handler in 0, and a task in each other one.
 fn who_of(actor: u8) -> Who
@@ -34,31 +35,33 @@ fn service_value(call: &Call) -> i32
     }
 }
 
-/// Adds the line of a call: it returned, or its task waits. The entry of an extended call has none.
+/// Adds the line of a call: it returned, or its task waits. The entry of an extended call has none. Where the hook of calls is
+/// set, its line stands before.
 fn push_call_line(
     lines: &mut Vec<Line>,
+    is_hooked: bool,
     step: u32,
     who: u8,
     call: CallName,
     outcome: Outcome,
 ) -> Result<(), AllocError>
-    ensures { OnOk result (lines.new.items ≡ lines.old.items ++ call_lines false step who call outcome) }
+    ensures { OnOk result (lines.new.items ≡ lines.old.items ++ call_lines is_hooked step who call outcome) }
 {
-    match outcome {
-        Outcome::Returned(answer) => lines.push(Line::Returned {
+    let line = match outcome {
+        Outcome::Returned(answer) => Line::Returned {
             step,
             who,
             call,
             answer,
-        })?,
-        Outcome::Blocked => lines.push(Line::Blocked {
+        },
+        Outcome::Blocked => Line::Blocked {
             step,
             task: who,
             call,
-        })?,
-        Outcome::Entered(_) => {}
-    }
-    Ok(())
+        },
+        Outcome::Entered(_) => return Ok(()),
+    };
+    push_hooked(lines, is_hooked, step, Hook::Service { who, call }, line)
 }
 
 impl Kernel {
@@ -114,7 +117,7 @@ impl Kernel {
         }
     }
 
-    /// A task or the running handler makes a call.
+    /// A task or the running handler makes a call. The hook that was set before it decides on its line.
     #[tactic(auto, unfolding(machine_model::specs::Events::Calls::called))]
     pub(crate) fn make_call(
         &mut self,
@@ -132,10 +135,11 @@ impl Kernel {
         ensures lines { OnOk result (lines.new.items ≡ lines.old.items ++ (called mode step self.old actor call.now).lines) }
     {
         self.known_of_tasks();
+        let is_hooked = self.hooks().svc;
         let outcome = self.family_call(actor, call)?;
         self.end_holdings(mode, actor, call, outcome);
         self.take_answer(actor, call, outcome);
-        push_call_line(lines, step, actor, call.name(), outcome)?;
+        push_call_line(lines, is_hooked, step, actor, call.name(), outcome)?;
         Ok(())
     }
 }

@@ -4,11 +4,12 @@ ghost use Rattle.std.specs.Prelude.{◌≡◌, ◌≤◌, ◌++◌, OnOk, Some, 
 ghost use Rattle.step_lemmas.specs.Places.{InFront};
 ghost use Rattle.machine_model.specs.Events.Handlers.{due_begun, handler_begun, insert_once, interrupt_begun, requested, with_requests};
 
+use crate::hooking::push_hooked;
 use crate::kernel::Kernel;
 use kernel_base::{Event, Flags};
 use std::alloc::AllocError;
 use task_machine::start_frame;
-use tk_types::{HandlerKind, Line, Script};
+use tk_types::{HandlerKind, Hook, Line, Script};
 
 /// The place of a number in a rising list: that of the first number that isn't less.
 fn place_of(pending: &[u8], number: u8) -> usize
@@ -79,12 +80,17 @@ impl Kernel {
             handler: true,
             ..flags
         });
-        lines.push(Line::Started {
+        let is_hooked = self.hooks().int;
+        let hook = Hook::Handler {
+            handler: kind,
+            number,
+        };
+        let line = Line::Started {
             step,
             handler: kind,
             number,
-        })?;
-        Ok(())
+        };
+        push_hooked(lines, is_hooked, step, hook, line)
     }
 
     /// The first handler that is due starts. The end of a wait is none.

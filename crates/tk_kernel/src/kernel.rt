@@ -14,6 +14,8 @@ ghost use Rattle.step_lemmas.specs.Sound.{IsWhole};
 ghost use Rattle.tk_kernel.specs.Tables.{AreTables};
 ghost use Rattle.machine_model.specs.States.State.{frame_of, no_frame, state_start, with_frame};
 
+use crate::hooking::no_hooks;
+use context_model::hook_set::HookSet;
 use contexts::Contexts;
 use kernel_base::{Base, Event};
 use mail_buffer::Mails;
@@ -37,6 +39,7 @@ pub(crate) struct Kernel {
     pub(crate) pools: Pools,
     pub(crate) clocks: Clocks,
     pub(crate) contexts: Contexts,
+    pub(crate) hooks: HookSet,
     /// By task: the body that a start begins.
     pub(crate) bodies: Vec<u8>,
     /// By task: where its body is being done; in place 0 that of the running handler.
@@ -57,14 +60,13 @@ pub(crate) struct Kernel {
 }
 
 impl Model for Kernel {
-    ghost use Rattle.context_model.specs.Hooks.Tables.{hooks_start};
     ghost use Rattle.machine_model.specs.States.State.{State};
     ghost use Rattle.step_lemmas.specs.Built.{no_devices};
     ghost use Rattle.tk_kernel.specs.Tables.{AreTables};
 
     ghost Value = { State };
 
-    ghost view = { λ k. record { base = k.base; objects = record { sem_flags = k.sem_flags; mutexes = k.mutexes; mails = k.mails; pools = k.pools; clocks = k.clocks; contexts = k.contexts; devices = no_devices }; bodies = k.bodies.items; frames = k.frames.items; saved = k.saved.items; memory = k.memory; due = k.due.items; pending = k.pending.items; ticks = k.ticks; hooks = hooks_start; halted = k.halted; steps = k.steps } };
+    ghost view = { λ k. record { base = k.base; objects = record { sem_flags = k.sem_flags; mutexes = k.mutexes; mails = k.mails; pools = k.pools; clocks = k.clocks; contexts = k.contexts; devices = no_devices }; bodies = k.bodies.items; frames = k.frames.items; saved = k.saved.items; memory = k.memory; due = k.due.items; pending = k.pending.items; ticks = k.ticks; hooks = k.hooks; halted = k.halted; steps = k.steps } };
 
     ghost invariant = { λ k. AreTables k.bodies.items k.frames.items k.saved.items };
 }
@@ -155,6 +157,7 @@ impl Kernel {
             pools,
             clocks,
             contexts,
+            hooks: no_hooks(),
             bodies,
             frames,
             saved,
@@ -182,7 +185,7 @@ impl Kernel {
     }
 
     /// States, at no cost, that there is a place for each task in all tables, that each task that waits has its places
-    /// among the stamps and by the beginning of its wait, that there is no device, and that no hook is set.
+    /// among the stamps and by the beginning of its wait, and that there is no device.
     pub(crate) fn known_of_tasks(&self)
         ensures whole { IsWhole self.now }
         ensures slots { length self.now.base.tasks ≡ 256 }

@@ -5,6 +5,7 @@ mod bodies;
 mod calls;
 mod ending;
 mod handlers;
+mod hooking;
 mod kernel;
 mod machine;
 mod running;

@@ -8,11 +8,12 @@ ghost use Rattle.machine_model.specs.Events.Follow.{delays, dispatched, follow_r
 ghost use Rattle.machine_model.specs.States.State.{parts_of, with_parts};
 ghost use Rattle.step_lemmas.specs.Sound.{IsSound};
 
+use crate::hooking::push_hooked;
 use crate::kernel::Kernel;
 use kernel_base::Release;
 use std::alloc::AllocError;
 use task_machine::{call_before, give};
-use tk_types::{CallName, Line, Mode, Script};
+use tk_types::{CallName, Hook, Line, Mode, Script};
 
 /// The most servings of one settling: each ends a wait, or moves one, and no more tasks wait than have a slot.
 const MOST_SERVINGS: usize = 512;
@@ -159,8 +160,9 @@ impl Kernel {
             return Ok(());
         }
         self.base.dispatch();
-        lines.push(Line::Dispatch { step, task })?;
-        Ok(())
+        let is_hooked = self.hooks().dsp;
+        let line = Line::Dispatch { step, task };
+        push_hooked(lines, is_hooked, step, Hook::Dispatch { task }, line)
     }
 
     /// What follows an event: settling, the waits that ended, the dispatch.

@@ -9,5 +9,5 @@ end_holdings-requires c = record {
 
 pub returns-clause-lines : goal.returns-clause-lines
 returns-clause-lines c =
-    told_lines c.args.mode c.args.step c.args.self.now c.family_call.new.self c.args.actor c.args.call.now _ c.name.result c.args.lines.now.items _ c.known_of_tasks.ensures.none c.in_ok-outcome.ensures c.name.ensures
+    told_lines c.args.mode c.args.step c.args.self.now c.family_call.new.self c.args.actor c.args.call.now _ c.name.result c.hooks-is_hooked.result c.args.lines.now.items _ c.hooks-is_hooked.ensures c.in_ok-outcome.ensures c.name.ensures
     c.in_ok-push_call_line.ensures
