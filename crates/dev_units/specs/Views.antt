@@ -1,5 +1,5 @@
 -- What contracts see of a unit and of bytes with room, and what holds of a unit at every time.
-use Rattle.std.specs.Prelude.{ℕ, ◌≡◌, ◌≤◌, ◌<◌, ◌+◌, ◌*◌, true, false, List, length, ⊤}
+use Rattle.std.specs.Prelude.{ℕ, ◌≡◌, ◌≤◌, ◌<◌, ◌+◌, ◌*◌, ◌^◌, true, false, List, length, ⊤}
 use Rattle.tk_types.specs.declared.script.Kind.{Kind}
 use Rattle.tk_types.specs.declared.script.Kind.TheVariants.{Ram, Log, Flaky, Slow}
 use Rattle.device_model.specs.declared.messages.Request.{Request}
@@ -25,12 +25,12 @@ most_bytes Log = log_limit
 most_bytes (Flaky size each) = size
 most_bytes (Slow size turns) = size
 
--- of a flaky unit each request fails, or each second one, or one of more; of no other one does any
+-- a flaky unit fails each request, or each second one, or each later one
 abbrev pub HasTurns : Kind → Type 0
 HasTurns (Flaky size each) = 1 ≤ each
 HasTurns _ = ⊤
 
--- a unit can be of a kind with at most so many bytes
+-- a kind that a unit can be of
 pub record IsRightKind (kind : Kind) : Type 0 where
   pub size : most_bytes kind ≤ log_limit
   pub has_turns : HasTurns kind
@@ -47,7 +47,8 @@ pub record HasRoom (request : Request) (number : ℕ) (out : RoomyBytes) : Type 
   pub brought : length out.items ≡ block_size * number
   pub room : request.size ≤ block_size * number + out.room
 
--- a request has more blocks than so many, and for the bytes of the next one of a read there is room as well
+-- a request has more blocks than so many, and of a read there is room for the rest
 pub record GoesOn (request : Request) (number : ℕ) (out : RoomyBytes) : Type 0 where
   pub more : block_size * number < request.size
+  pub few : block_size * number < 2 ^ 32
   pub room : request.write ≡ false → HasRoom request number out

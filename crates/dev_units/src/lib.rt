@@ -5,6 +5,8 @@ mod block_end;
 mod bytes;
 mod count;
 mod lists;
+#[cfg(test)]
+mod tests;
 mod unit;
 
 pub use block_end::BlockEnd;

@@ -1,6 +1,6 @@
 //! The unit of a device.
 
-ghost use Rattle.std.specs.Prelude.{◌≡◌, ◌≤◌, ◌<◌, ◌+◌, ◌*◌, ◌++◌, ℕ, true, false, [], IfOk, drop, length, take, vec_capacity};
+ghost use Rattle.std.specs.Prelude.{◌≡◌, ◌≤◌, ◌<◌, ◌+◌, ◌*◌, ◌^◌, ◌++◌, ℕ, true, false, [], IfOk, drop, length, take, vec_capacity};
 ghost use Rattle.device_model.specs.Units.Stores.{Store, first_bytes, is_log, is_spoilt, log_limit, store_start};
 ghost use Rattle.device_model.specs.Units.Function.{IsWhole, appends, available, begin, block_size};
 ghost use Rattle.device_model.specs.Units.Blocks.{block as after_block, count_at, piece, written_on};
@@ -71,8 +71,8 @@ fn piece(count: usize, moved: usize) -> usize
 }
 
 impl Unit {
-    /// A unit as it is at first: zeros, or of a log nothing. All its memory is taken here. The kind has at most 65,536
-    /// bytes, and of a flaky one each request fails or each second one or fewer.
+    /// A unit as it is at first: it holds zeros, and a log nothing. All memory that it ever needs is taken here. The kind has
+    /// at most 65,536 bytes, and a flaky one fails each k-th request, where k is 1 or more.
     pub fn new(alloc: Global, kind: Kind) -> Result<Unit, OutOfMemory>
         requires { IsRightKind kind }
         ensures kind { IfOk result (λ unit. unit.kind ≡ kind) }
@@ -87,8 +87,8 @@ impl Unit {
         })
     }
 
-    /// Begins a request, once before its first block: one of some size counts for which one of a flaky unit fails. It takes
-    /// no memory. The request is under way then: cut off here, it leaves the store so.
+    /// Begins a request, once and before its first block. It counts for a flaky unit, unless it is for no bytes. From then on it
+    /// is under way: it may be cut off at once, or served block by block. It takes no memory.
     pub fn begin(&mut self, request: &Request)
         ensures begun { self.new ≡ record self.old { store = begin self.old.store request.now } }
         ensures under_way { IsUnderWay self.old.kind self.old.store request.now 0 self.new.store [] }
@@ -146,16 +146,21 @@ impl Unit {
         length.saturating_sub(request.start)
     }
 
-    /// How many bytes a request moves in all, of which so many were moved.
-    fn count_at(&self, request: &Request, moved: usize) -> usize
-        requires { moved ≤ 274877906944 }
-        ensures count { result ≡ count_at self.now.kind self.now.store request.now moved }
-        ensures few { result ≤ request.now.size }
+    /// How many bytes a request moves in all, seen from the block with that number: by then a log has taken the bytes of the
+    /// blocks before it.
+    fn count_at(&self, request: &Request, block: u32) -> usize
+        ensures count { result ≡ count_at self.now.kind self.now.store request.now (block_size * block) }
+        ensures within { result ≤ request.now.size }
+        ensures few { result < 2 ^ 32 }
     {
         if request.size == 0 || self.is_spoilt() {
             return 0;
         }
-        let before = if self.appends(request) { moved } else { 0 };
+        let before = if self.appends(request) {
+            BLOCK_SIZE * block as usize
+        } else {
+            0
+        };
         let room = self.available(request) as usize + before;
         (request.size as usize).min(room)
     }
@@ -245,9 +250,12 @@ impl Unit {
         }
     }
 
-    /// Does the block with that number, from 0 on, of a request that was begun, once all blocks before it were done. It takes
-    /// no memory: a write goes into the memory that the unit has, and a read into the room of `out`, in which the bytes of the
-    /// blocks before it stand. A request that moves nothing has one block, with the number 0.
+    /// Does the block with that number, from 0 on, of a request that was begun, once all blocks before it were done. A write
+    /// goes into the store and leaves `out` as it is; of a read `out` has the bytes of the blocks before, and room for all that
+    /// was asked for. It takes no memory. A request that moves nothing has one block, with the number 0.
+    ///
+    /// Answers `More` while blocks are left, and then how the request ended, which is what the unit does with it as a whole.
+    /// Where a request stops before, it is cut off behind the bytes of the blocks that were done.
     pub fn serve_block(&mut self, request: &Request, block: u32, out: &mut Bytes) -> BlockEnd
         requires whole { IsWhole request.now }
         requires room { request.now.write ≡ false → HasRoom request.now block out.old }
@@ -260,7 +268,7 @@ impl Unit {
         ensures kept { request.now.write ≡ true → out.new ≡ out.old }
         ensures more { result ≡ More → GoesOn request.now (block + 1) out.new }
     {
-        let count = self.count_at(request, BLOCK_SIZE * block as usize);
+        let count = self.count_at(request, block);
         let end = self.end_of(request, block, count);
         self.move_block(request, block, count, out);
         end

@@ -1,4 +1,4 @@
-use Rattle.std.proofs.Common.{◌==◌, ap, subst, sym, arith, rules, []}
+use Rattle.std.proofs.Common.{subst, arith, rules, []}
 use Rattle.std.proofs.lemmas.Bool.Decides.{nat_tests}
 use Rattle.device_model.specs.Units.Stores.{Store}
 use Rattle.dev_units.specs.Progress.{IsUnderWay}
