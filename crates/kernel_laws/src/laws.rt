@@ -25,7 +25,7 @@ ghost use Rattle.kernel_model.specs.Words.Orders.{without};
 ghost use Rattle.kernel_model.specs.LawWords.Precedence.{KeepsPlace, NoneReady, Precedes, StandsLast, gives_place_away};
 ghost use Rattle.kernel_model.specs.LawWords.Rising.{IsRisingBy};
 ghost use Rattle.kernel_model.specs.SemFlags.Calls.{sem_flag_call, serves_at_once, waited_for_flag, waited_for_sem};
-ghost use Rattle.kernel_model.specs.SemFlags.Tables.{SemFlags, flag_at, has_bits, sem_at, serve_flag, serve_sem};
+ghost use Rattle.kernel_model.specs.SemFlags.Tables.{SemFlagParts, SemFlags, flag_at, has_bits, sem_at, serve_flag, serve_sem};
 ghost use Rattle.kernel_model.specs.Tasks.Calls.{task_call};
 ghost use Rattle.kernel_model.specs.LawWords.TimeOrder.{AreDueBy, AreLater, after_time};
 ghost use Rattle.kernel_model.specs.SemFlags.Trial.{MayWait, flag_trial, sem_trial};
@@ -116,6 +116,14 @@ pub fn a_release_ends_one_wait()
     ensures over { (b : Base) (t : ℕ) (result : Answer) → is_waiting (release b t result) t ≡ false }
     ensures one { (b : Base) (t : ℕ) (result : Answer) → is_waiting b t ≡ true → waiting_count b ≡ waiting_count (release b t result) + 1 }
     ensures queues { (order : Order) (b : Base) (t object : ℕ) (result : Answer) → queue order (release b t result) object ≡ without t (queue order b object) }
+{}
+
+/// A serving ends one wait: where a semaphore or an event flag serves a waiter, one task fewer waits than before.
+pub fn a_serving_ends_one_wait()
+    ensures semaphore { (b : Base) (s : SemFlags) (id : ℕ) (parts : SemFlagParts) → serve_sem b s id ≡ Some parts →
+        waiting_count b ≡ waiting_count parts.base + 1 }
+    ensures event_flag { (b : Base) (s : SemFlags) (id : ℕ) (parts : SemFlagParts) → serve_flag b s id ≡ Some parts →
+        waiting_count b ≡ waiting_count parts.base + 1 }
 {}
 
 /// A waiting call is its trial: what a semaphore or an event flag decides for its caller is what comes of it when the

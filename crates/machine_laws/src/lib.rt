@@ -4,6 +4,7 @@
 pub mod laws;
 pub mod phases;
 pub mod places;
+pub mod priorities;
 pub mod services;
 pub mod ticks;
 pub mod waits;

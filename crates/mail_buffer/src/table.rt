@@ -139,6 +139,7 @@ impl Mails {
         ensures sending { length self.now.sending ≡ 256 }
         ensures into { length self.now.into ≡ 256 }
     {
+        let _sending = &self.sending;
     }
 
     /// Where what the table keeps is allocated.

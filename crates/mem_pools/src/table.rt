@@ -122,6 +122,7 @@ impl Pools {
     pub fn known_of_tasks(&self)
         ensures { length self.now.sizes ≡ 256 }
     {
+        let _sizes = &self.sizes;
     }
 
     /// How many slots there are for fixed pools, and as many for variable ones: one for each ID, and one for 0.

@@ -1,18 +1,26 @@
 -- What a task that joins a queue, and one that was served then, leave of the others: their queues stand as they stood, and so
 -- does each priority.
-use Rattle.std.proofs.Common.{◌≡◌, ℕ, zero, suc, ◌+◌, ◌-◌, ◌&&◌, false, not, cond, List, [], ◌∷◌, Option, Some, None, refl, ◌∙◌, ap, sym, ℤ, pos, negsuc}
+use Rattle.std.proofs.Common.{◌≡◌, ℕ, zero, suc, ◌+◌, ◌-◌, ◌&&◌, Bool, true, false, not, cond, List, [], ◌∷◌, ◌++◌, append-nil, Option, Some, None, refl, ◌∙◌, ap, sym, ℤ, pos, negsuc, arith}
+use Rattle.std.specs.Bool.{◌==◌}
 use Rattle.std.specs.Prelude.{drop, nat_le, nat_lt, slice_set}
+use Rattle.std.proofs.lemmas.Bool.Decides.{nat_tests}
+use Rattle.std.proofs.lemmas.List.Elements.{filter-append}
 use Rattle.tk_types.specs.declared.answer.Answer.{Answer}
 use Rattle.tk_types.specs.declared.task.Order.{Order}
+use Rattle.tk_types.specs.declared.task.Order.TheVariants.{Fifo, Priority}
 use Rattle.tk_types.specs.declared.task.Phase.TheVariants.{Ready, Waiting}
 use Rattle.tk_types.specs.declared.task.Task.{Task}
-use Rattle.kernel_model.specs.Words.Orders.{entry, taken_from}
-use Rattle.kernel_model.specs.Tasks.Base.{Base, give_bytes, base_in, current, current_in, is_dormant_phase, task_at, make_wait, release}
+use Rattle.kernel_model.specs.Words.Orders.{entry, taken_from, without}
+use Rattle.kernel_model.specs.Tasks.Base.{Base, give_bytes, base_in, current, current_in, is_dormant_phase, queue, task_at, make_wait, release, waits_for}
 use Rattle.kernel_model.specs.SemFlags.Trial.{MayWait}
-use Rattle.kernel_lemmas.proofs.Tables.{entry_at, entry_each, entry_there}
+use Rattle.kernel_lemmas.proofs.Filters.{apart_of}
+use Rattle.kernel_lemmas.proofs.Queues.{fifo_absent, fifo_wait_elsewhere, priority_absent, priority_wait_elsewhere, queue_release}
+use Rattle.kernel_lemmas.proofs.Sorting.{filter_insert_left, not_here}
+use Rattle.kernel_lemmas.proofs.Tables.{entry_at, entry_each, entry_there, itself}
+use Rattle.call_lemmas.proofs.Picks.{joined}
+use Rattle.call_lemmas.proofs.Trial.{queue_joined, ready_for_none}
 use Rattle.object_model.specs.Mutexes.Priority.{is_alive}
 use Rattle.object_model.specs.Mutexes.Tables.{Mutexes, awaited_in, awaited_in_phase}
-use Rattle.first_machine.proofs.Standing.{queue_elsewhere as stands_elsewhere, queue_rejoined as stands_again}
 use Rattle.mutex_laws.proofs.Alike.{IsLike, current_alike, like_then}
 use Rattle.machine_model.specs.Events.Rest.{AreUpToDate}
 use Rattle.paragraph_laws.proofs.Still.{SameQueue}
@@ -25,12 +33,41 @@ AwayFrom b c object = (other : ℕ) → (other ≡ object → ⊥) → SameQueue
 
 -- while a task waits for an object
 pub queue_elsewhere : (b : Base) (t object : ℕ) (order : Order) (timeout : ℤ) → MayWait b t → AwayFrom b (make_wait b t object order timeout) object
-queue_elsewhere b t object order timeout may other apart = stands_elsewhere b t object other order timeout may apart
+queue_elsewhere b t object order timeout may other apart Fifo = fifo_wait_elsewhere b t object other order timeout apart (ready_for_none b t other may)
+queue_elsewhere b t object order timeout may other apart Priority = priority_wait_elsewhere b t object other order timeout apart (ready_for_none b t other may)
+
+-- a task that doesn't wait for an object isn't in its queue
+pub absent_of : (order : Order) (b : Base) (t object : ℕ) → waits_for b object t ≡ false → without t (queue order b object) ≡ queue order b object
+absent_of Fifo b t object idle = fifo_absent b t object idle
+absent_of Priority b t object idle = priority_absent b t object idle
+
+-- a task joined a queue, and left it
+joined_left : (order : Order) (key : ℕ → ℕ) (t : ℕ) (ids : List ℕ) → without t ids ≡ ids → without t (joined order key t ids) ≡ ids
+joined_left Fifo key t ids absent =
+    filter-append (λ u. not (u == t)) ids (t ∷ [])
+    ∙ ap (λ last. without t ids ++ last) (not_here (not (t == t)) t [] (ap not (itself t)))
+    ∙ append-nil (without t ids)
+    ∙ absent
+joined_left Priority key t ids absent = filter_insert_left (λ u. not (u == t)) key t ids (ap not (itself t)) ∙ absent
+
+waited_if : (b : Base) (t object other : ℕ) (order by : Order) (timeout : ℤ) (same : Bool) → (other == object) ≡ same → MayWait b t →
+    without t (queue order (make_wait b t object by timeout) other) ≡ queue order b other
+waited_if b t object other order by timeout true is may =
+    let e : other ≡ object = grind (arith, nat_tests, is) in
+    ap (λ at. without t (queue order (make_wait b t object by timeout) at)) e
+    ∙ ap (without t) (queue_joined order b t object by timeout may)
+    ∙ joined_left order (current b) t (queue order b object) (absent_of order b t object (ready_for_none b t object may))
+    ∙ ap (queue order b) (sym e)
+waited_if b t object other order by timeout false is may =
+    ap (without t) (queue_elsewhere b t object by timeout may other (apart_of other object is) order)
+    ∙ absent_of order b t other (ready_for_none b t other may)
 
 -- and once a task that joined has been served, the queue of every object does
 pub queue_rejoined : (b : Base) (t object : ℕ) (order : Order) (timeout : ℤ) (result : Answer) → MayWait b t → (other : ℕ) →
     SameQueue b (release (make_wait b t object order timeout) t result) other
-queue_rejoined b t object order timeout result may other = stands_again b t object other order timeout result may
+queue_rejoined b t object order timeout result may other by =
+    queue_release by (make_wait b t object order timeout) t other result
+    ∙ waited_if b t object other by order timeout (other == object) refl may
 
 -- ---- the priorities
 
@@ -58,7 +95,7 @@ same_at of b c t k now written at same u =
     ∙ entry_each (λ v o. of o ≡ of (task_at b v)) b.tasks t (Some now) (ap of (entry_there b.tasks t k (Some now) at) ∙ same ∙ ap of (sym at)) (λ v apart. refl) u
 
 -- a row that is alive as before, with the priorities that it had, and that waits for the mutex that it did, if any
-written_keeps : (b c : Base) (t : ℕ) (k now : Task) → c.tasks ≡ slice_set b.tasks t (Some now) → task_at b t ≡ Some k → is_dormant_phase now.phase ≡ is_dormant_phase k.phase →
+pub written_keeps : (b c : Base) (t : ℕ) (k now : Task) → c.tasks ≡ slice_set b.tasks t (Some now) → task_at b t ≡ Some k → is_dormant_phase now.phase ≡ is_dormant_phase k.phase →
     now.base ≡ k.base → now.current ≡ k.current →
     awaited_in_phase now.phase ≡ awaited_in_phase k.phase → KeepsPriorities b c
 written_keeps b c t k now written at lives bases currents awaits = (

@@ -1,8 +1,15 @@
 pub mod Tables
 pub mod Still
+pub mod Patterns
+pub mod Standing
 pub mod Joined
+pub mod Goings
 pub mod OneKind
+pub mod NearBuffer
 pub mod Settled
+pub mod BufferLoop
+pub mod BufferSettles
+pub mod BufferCalls
 pub mod Pools
 pub mod Boxes
 pub mod SemFlags

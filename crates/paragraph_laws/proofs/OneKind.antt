@@ -137,10 +137,14 @@ DevicesNone q = (serve_acceptances q ≡ None) × ((serve_endings q ≡ None) ×
 -- nor do these
 pub devices_beside : (p : Parts) (c : Base) (mails : Mails) (object : ℕ) → AwayFrom p.base c object → object ≤ 575 → NoneOf p →
     DevicesNone (record (dev_parts p) { base = c; mails = mails })
-devices_beside p c mails object away low none = (
-  acceptances_still (dev_parts p) c mails (λ d one. away (575 + d) (λ e. omega (arith, one, e, low))) none.acceptances,
-  (
-    endings_still (dev_parts p) c mails (λ dd one. away (584 + (dd - 1)) (λ e. omega (arith, e, low))) none.endings,
-    (closes_still (dev_parts p) c mails (λ dd one. away (616 + (dd - 1)) (λ e. omega (arith, e, low))) none.closes, suspension_still (dev_parts p) c mails (away 648 (λ e. omega (arith, e, low))) none.suspension),
-  ),
-)
+devices_beside p c mails object away low none =
+    let q : MailParts = record { base = c; table = mails; memory = p.memory } in (
+      acceptances_still (dev_parts p) q (λ d one. away (575 + d) (λ e. omega (arith, one, e, low))) none.acceptances,
+      (
+        endings_still (dev_parts p) q (λ dd one. away (584 + (dd - 1)) (λ e. omega (arith, e, low))) none.endings,
+        (
+          closes_still (dev_parts p) q (λ dd one. away (616 + (dd - 1)) (λ e. omega (arith, e, low))) none.closes,
+          suspension_still (dev_parts p) q (away 648 (λ e. omega (arith, e, low))) none.suspension,
+        ),
+      ),
+    )

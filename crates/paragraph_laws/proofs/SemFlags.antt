@@ -23,8 +23,8 @@ use Rattle.kernel_lemmas.proofs.Filters.{apart_of}
 use Rattle.kernel_lemmas.proofs.Tables.{entry_inside, entry_other, entry_there}
 use Rattle.call_lemmas.proofs.Picks.{this_if}
 use Rattle.call_lemmas.proofs.Trial.{count_asked, flag_served_joined, flag_settled, joined_waits, ready_for_none, sem_served_joined, sem_settled, wish_asked}
-use Rattle.first_machine.proofs.Patterns.{cleared_fails}
-use Rattle.first_machine.proofs.Standing.{GivesNoBits, counted, flag_still, patterned, sem_still}
+use Rattle.paragraph_laws.proofs.Patterns.{cleared_fails}
+use Rattle.paragraph_laws.proofs.Standing.{GivesNoBits, counted, flag_still, patterned, sem_still}
 use Rattle.mail_laws.proofs.Backs.{base_back}
 use Rattle.object_model.specs.Servings.{first_serving}
 use Rattle.machine_model.specs.Events.Settle.{settle}

@@ -45,7 +45,7 @@ given_still modes.Free p q same queues is =
 
 -- ---- settling that serves nobody, and one
 
-refreshed_none : (p : Parts) → AreUpToDate p.base p.objects.mutexes → refreshed p ≡ p
+pub refreshed_none : (p : Parts) → AreUpToDate p.base p.objects.mutexes → refreshed p ≡ p
 refreshed_none p is = ap (λ base. record p { base = base }) (resettled_same p.base p.objects.mutexes (λ t least. is.each t least))
 
 served_none : (left : ℕ) (p : Parts) → serve_object p ≡ None → served_within left p ≡ p

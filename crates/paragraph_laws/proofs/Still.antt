@@ -14,7 +14,7 @@ use Rattle.object_model.specs.declared.mails.Message.{Message}
 use Rattle.object_model.specs.declared.mutexes.Mutex.{Mutex}
 use Rattle.object_model.specs.Servings.{first_serving}
 use Rattle.object_model.specs.Mutexes.Tables.{MutexParts, Mutexes, mutex_at, mutex_object, mutex_waiters, serve_mutex, serve_mutex_at, serve_mutex_of, serve_mutexes}
-use Rattle.object_model.specs.Mails.Tables.{Mails, Mailbox, MessageBuffer, MailParts, box_at, box_object, buffer_at, senders_object, receivers_object, bytes_of}
+use Rattle.object_model.specs.Mails.Tables.{Mailbox, MessageBuffer, MailParts, box_at, box_object, buffer_at, senders_object, receivers_object, bytes_of}
 use Rattle.object_model.specs.Mails.Boxes.{box_serves, box_waiters, serve_box, serve_box_at, serve_mailboxes}
 use Rattle.object_model.specs.Mails.Buffers.{buffer_serves, first_of, has_space, receivers, senders, serve_buffer, serve_buffer_at, serve_buffers}
 use Rattle.object_model.specs.Pools.Tables.{FixedPool, VariablePool, PoolParts, fixed_at, fixed_object, size_of, variable_at, variable_object}
@@ -263,60 +263,60 @@ variable_pools_still p q same sizes queues is =
 
 -- ---- devices
 
--- the devices, with another base and other mails
-abbrev pub devices_to : DevParts → Base → Mails → DevParts
-devices_to p c mails = record p { base = c; mails = mails }
+-- the devices, with another base, other mails and another memory
+abbrev pub devices_to : DevParts → MailParts → DevParts
+devices_to p q = record p { base = q.base; mails = q.table; memory = q.memory }
 
-acceptance_none : (p : DevParts) (c : Base) (mails : Mails) (d : ℕ) (waiters : List ℕ) → acceptance_by p d waiters ≡ None → acceptance_by (devices_to p c mails) d waiters ≡ None
-acceptance_none p c mails d [] is = refl
-acceptance_none p c mails d (t ∷ ts) is = place_none p (devices_to p c mails) (has_place p.table d) d t refl is
+acceptance_none : (p : DevParts) (q : MailParts) (d : ℕ) (waiters : List ℕ) → acceptance_by p d waiters ≡ None → acceptance_by (devices_to p q) d waiters ≡ None
+acceptance_none p q d [] is = refl
+acceptance_none p q d (t ∷ ts) is = place_none p (devices_to p q) (has_place p.table d) d t refl is
 
 -- devices accept no request still
-pub acceptances_still : (p : DevParts) (c : Base) (mails : Mails) → ((d : ℕ) → 1 ≤ d → SameQueue p.base c (acceptance_object d)) → serve_acceptances p ≡ None →
-    serve_acceptances (devices_to p c mails) ≡ None
+pub acceptances_still : (p : DevParts) (q : MailParts) → ((d : ℕ) → 1 ≤ d → SameQueue p.base q.base (acceptance_object d)) → serve_acceptances p ≡ None →
+    serve_acceptances (devices_to p q) ≡ None
 unfolding serve_acceptances serve_acceptance
-acceptances_still p c mails queues is =
-    none_still (serve_acceptance p) (serve_acceptance (devices_to p c mails)) p.table.links p.table.links refl refl
-    (λ d in_it none. ap (acceptance_by (devices_to p c mails) d) (queues d in_it.0 Fifo) ∙ acceptance_none p c mails d (fifo_queue p.base (acceptance_object d)) none) is
+acceptances_still p q queues is =
+    none_still (serve_acceptance p) (serve_acceptance (devices_to p q)) p.table.links p.table.links refl refl
+    (λ d in_it none. ap (acceptance_by (devices_to p q) d) (queues d in_it.0 Fifo) ∙ acceptance_none p q d (fifo_queue p.base (acceptance_object d)) none) is
 
-ending_by : (p : DevParts) (c : Base) (mails : Mails) (dd : ℕ) (found : Option ℕ) → ending_of_first p dd found ≡ None → ending_of_first (devices_to p c mails) dd found ≡ None
-ending_by p c mails dd None is = refl
-ending_by p c mails dd (Some t) is = claimed_none p (devices_to p c mails) t (picked p.table dd (wish_of p.table t)) is
+ending_by : (p : DevParts) (q : MailParts) (dd : ℕ) (found : Option ℕ) → ending_of_first p dd found ≡ None → ending_of_first (devices_to p q) dd found ≡ None
+ending_by p q dd None is = refl
+ending_by p q dd (Some t) is = claimed_none p (devices_to p q) t (picked p.table dd (wish_of p.table t)) is
 
 -- no wait ends with an ending still
-pub endings_still : (p : DevParts) (c : Base) (mails : Mails) → ((dd : ℕ) → 1 ≤ dd → SameQueue p.base c (ending_object dd)) → serve_endings p ≡ None →
-    serve_endings (devices_to p c mails) ≡ None
+pub endings_still : (p : DevParts) (q : MailParts) → ((dd : ℕ) → 1 ≤ dd → SameQueue p.base q.base (ending_object dd)) → serve_endings p ≡ None →
+    serve_endings (devices_to p q) ≡ None
 unfolding serve_endings serve_ending
-endings_still p c mails queues is =
-    none_still (serve_ending p) (serve_ending (devices_to p c mails)) p.table.opened p.table.opened refl refl
-    (λ dd in_it none. ap (λ waiters. ending_of_first (devices_to p c mails) dd (find (λ t. is_some (picked p.table dd (wish_of p.table t))) waiters)) (queues dd in_it.0 Fifo) ∙ ending_by p c mails dd _ none) is
+endings_still p q queues is =
+    none_still (serve_ending p) (serve_ending (devices_to p q)) p.table.opened p.table.opened refl refl
+    (λ dd in_it none. ap (λ waiters. ending_of_first (devices_to p q) dd (find (λ t. is_some (picked p.table dd (wish_of p.table t))) waiters)) (queues dd in_it.0 Fifo) ∙ ending_by p q dd _ none) is
 
-closed_by : (busy : Bool) (p : DevParts) (c : Base) (mails : Mails) (dd t : ℕ) → closed_unless busy p dd t ≡ None → closed_unless busy (devices_to p c mails) dd t ≡ None
-closed_by true p c mails dd t is = refl
-closed_by false p c mails dd t is = absurd (cc is)
+closed_by : (busy : Bool) (p : DevParts) (q : MailParts) (dd t : ℕ) → closed_unless busy p dd t ≡ None → closed_unless busy (devices_to p q) dd t ≡ None
+closed_by true p q dd t is = refl
+closed_by false p q dd t is = absurd (cc is)
 
-close_none : (p : DevParts) (c : Base) (mails : Mails) (dd : ℕ) (waiters : List ℕ) → close_by p dd waiters ≡ None → close_by (devices_to p c mails) dd waiters ≡ None
-close_none p c mails dd [] is = refl
-close_none p c mails dd (t ∷ ts) is = closed_by (is_with_driver p.table dd) p c mails dd t is
+close_none : (p : DevParts) (q : MailParts) (dd : ℕ) (waiters : List ℕ) → close_by p dd waiters ≡ None → close_by (devices_to p q) dd waiters ≡ None
+close_none p q dd [] is = refl
+close_none p q dd (t ∷ ts) is = closed_by (is_with_driver p.table dd) p q dd t is
 
 -- no close ends still
-pub closes_still : (p : DevParts) (c : Base) (mails : Mails) → ((dd : ℕ) → 1 ≤ dd → SameQueue p.base c (close_object dd)) → serve_closes p ≡ None →
-    serve_closes (devices_to p c mails) ≡ None
+pub closes_still : (p : DevParts) (q : MailParts) → ((dd : ℕ) → 1 ≤ dd → SameQueue p.base q.base (close_object dd)) → serve_closes p ≡ None →
+    serve_closes (devices_to p q) ≡ None
 unfolding serve_closes serve_close
-closes_still p c mails queues is =
-    none_still (serve_close p) (serve_close (devices_to p c mails)) p.table.opened p.table.opened refl refl
-    (λ dd in_it none. ap (close_by (devices_to p c mails) dd) (queues dd in_it.0 Fifo) ∙ close_none p c mails dd (fifo_queue p.base (close_object dd)) none) is
+closes_still p q queues is =
+    none_still (serve_close p) (serve_close (devices_to p q)) p.table.opened p.table.opened refl refl
+    (λ dd in_it none. ap (close_by (devices_to p q) dd) (queues dd in_it.0 Fifo) ∙ close_none p q dd (fifo_queue p.base (close_object dd)) none) is
 
-suspended_by : (busy : Bool) (p : DevParts) (c : Base) (mails : Mails) (t : ℕ) → suspended_unless busy p t ≡ None → suspended_unless busy (devices_to p c mails) t ≡ None
-suspended_by true p c mails t is = refl
-suspended_by false p c mails t is = absurd (cc is)
+suspended_by : (busy : Bool) (p : DevParts) (q : MailParts) (t : ℕ) → suspended_unless busy p t ≡ None → suspended_unless busy (devices_to p q) t ≡ None
+suspended_by true p q t is = refl
+suspended_by false p q t is = absurd (cc is)
 
-suspension_none : (p : DevParts) (c : Base) (mails : Mails) (waiters : List ℕ) → suspension_by p waiters ≡ None → suspension_by (devices_to p c mails) waiters ≡ None
-suspension_none p c mails [] is = refl
-suspension_none p c mails (t ∷ ts) is = suspended_by (any_given p.table) p c mails t is
+suspension_none : (p : DevParts) (q : MailParts) (waiters : List ℕ) → suspension_by p waiters ≡ None → suspension_by (devices_to p q) waiters ≡ None
+suspension_none p q [] is = refl
+suspension_none p q (t ∷ ts) is = suspended_by (any_given p.table) p q t is
 
 -- nor does a suspension
-pub suspension_still : (p : DevParts) (c : Base) (mails : Mails) → SameQueue p.base c suspension_object → serve_suspension p ≡ None →
-    serve_suspension (devices_to p c mails) ≡ None
+pub suspension_still : (p : DevParts) (q : MailParts) → SameQueue p.base q.base suspension_object → serve_suspension p ≡ None →
+    serve_suspension (devices_to p q) ≡ None
 unfolding serve_suspension
-suspension_still p c mails queues is = ap (suspension_by (devices_to p c mails)) (queues Fifo) ∙ suspension_none p c mails (fifo_queue p.base suspension_object) is
+suspension_still p q queues is = ap (suspension_by (devices_to p q)) (queues Fifo) ∙ suspension_none p q (fifo_queue p.base suspension_object) is

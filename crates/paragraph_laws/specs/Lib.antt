@@ -1,1 +1,2 @@
 pub mod Paragraph
+pub mod Kept

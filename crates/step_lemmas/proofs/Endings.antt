@@ -27,15 +27,15 @@ use Rattle.object_model.specs.Mutexes.Tables.{Mutexes, free_last}
 use Rattle.object_model.specs.Mutexes.Calls.{task_call_beside}
 use Rattle.machine_model.specs.States.Objects.{Parts}
 use Rattle.machine_model.specs.States.State.{State, parts_of, who_of, with_parts}
-use Rattle.machine_model.specs.States.Waits.{IsOrderly}
 use Rattle.machine_model.specs.Events.Calls.{CallDone, call_lines, called, ended_by, ended_in, family_call}
 use Rattle.machine_model.specs.Events.Follow.{settled}
 use Rattle.machine_model.specs.Events.Settle.{freed_within, settle, with_freed}
-use Rattle.machine_lemmas.proofs.Walk.{kept_settled, of_kept}
-use Rattle.order_lemmas.proofs.ReachedOrders.{HasOrders, orders_are_kept}
+use Rattle.ask_lemmas.proofs.ReachedAsked.{HasAsked, asks_are_kept}
+use Rattle.ask_lemmas.proofs.WholeWalk.{kept_family, kept_settled}
 use Rattle.step_lemmas.specs.Built.{HasNone}
+use Rattle.step_lemmas.specs.Sound.{IsSound, IsWhole}
 use Rattle.step_lemmas.specs.Freeing.{freed_by}
-use Rattle.step_lemmas.proofs.Sound.{orderly_of, orders_of}
+use Rattle.step_lemmas.proofs.Sound.{asked_of, sound_of}
 
 -- ---- a call that ends a task
 
@@ -110,24 +110,12 @@ call_small st t (calls.Hook call) small = omega arith
 pub ended_small : (st now : State) (t : ℕ) (call : Call) (outcome : Outcome) → t < 256 → family_call st t call ≡ record { state = now; outcome = outcome } → ended_by t call outcome < 256
 ended_small st now t call outcome small is = subst (λ (done : CallDone). ended_by t call done.outcome < 256) is (call_small st t call small)
 
--- ---- the order of all queues through calls
+-- ---- what waits, through calls
 
-family_orders : (st : State) (t : ℕ) (c : Call) → HasOrders (parts_of st) → HasOrders (parts_of (family_call st t c).state)
-unfolding family_call
-family_orders st t (calls.Task c) has = orders_are_kept.task_calls (parts_of st) (who_of t) c has
-family_orders st t (calls.SemFlag c) has = orders_are_kept.sem_flag_calls (parts_of st) (who_of t) c has
-family_orders st t (calls.Mutex c) has = orders_are_kept.mutex_calls (parts_of st) (who_of t) c has
-family_orders st t (calls.Mail c) has = orders_are_kept.mail_calls (parts_of st) (who_of t) c has
-family_orders st t (calls.Pool c) has = orders_are_kept.pool_calls (parts_of st) (who_of t) c has
-family_orders st t (calls.Time c) has = orders_are_kept.time_calls (parts_of st) c has
-family_orders st t (calls.Context c) has = orders_are_kept.context_calls (parts_of st) (who_of t) c has
-family_orders st t (calls.Device c) has = orders_are_kept.device_calls (parts_of st) (who_of t) c has
-family_orders st t (calls.Hook c) has = orders_are_kept.written (parts_of st) _ has
-
--- each task that waits stands in its order after a call of any family
-pub call_orderly : (st now : State) (t : ℕ) (call : Call) (outcome : Outcome) → HavePlaces st.base → HasNone st → IsOrderly st.base st.objects → family_call st t call ≡ record { state = now; outcome = outcome } → IsOrderly now.base now.objects
-call_orderly st now t call outcome places none all is =
-    subst (λ (done : CallDone). IsOrderly done.state.base done.state.objects) is (orderly_of _ (family_orders st t call (orders_of (parts_of st) places none.devices all)))
+-- each task that waits stands in its order after a call of any family, and has asked for something that fits
+pub call_sound : (st now : State) (t : ℕ) (call : Call) (outcome : Outcome) → HavePlaces st.base → IsWhole st → HasNone st → IsSound st.base st.objects → family_call st t call ≡ record { state = now; outcome = outcome } → IsSound now.base now.objects
+call_sound st now t call outcome places whole none all is =
+    subst (λ (done : CallDone). IsSound done.state.base done.state.objects) is (sound_of _ (kept_family HasAsked asks_are_kept st t call (asked_of st places whole none all)))
 
 -- ---- the line of a call
 
@@ -144,19 +132,19 @@ told_lines mode n st now t call outcome name before after none is named written 
 
 -- ---- settling
 
-pub settled_orderly : (mode : Mode) (st now : State) → HavePlaces st.base → HasNone st → IsOrderly st.base st.objects → now ≡ settled mode st → IsOrderly now.base now.objects
-settled_orderly mode st now places none all is =
-    subst (λ (s : State). IsOrderly s.base s.objects) (sym is) (orderly_of _ (kept_settled HasOrders (of_kept HasOrders orders_are_kept) mode (parts_of st) (orders_of (parts_of st) places none.devices all)))
+pub settled_sound : (mode : Mode) (st now : State) → HavePlaces st.base → IsWhole st → HasNone st → IsSound st.base st.objects → now ≡ settled mode st → IsSound now.base now.objects
+settled_sound mode st now places whole none all is =
+    subst (λ (s : State). IsSound s.base s.objects) (sym is) (sound_of _ (kept_settled HasAsked asks_are_kept mode (parts_of st) (asked_of st places whole none all)))
 
 -- ---- mutexes, one after another
 
-freed_orders : (p : Parts) (t : ℕ) (next : Option Mutexes) → free_last p.base p.objects.mutexes t ≡ next → HasOrders p → HasOrders (unwrap_or (option_map (with_freed p) next) p)
-freed_orders p t None is has = has
-freed_orders p t (Some m) is has = orders_are_kept.freed p t m is has
+freed_asked : (p : Parts) (t : ℕ) (next : Option Mutexes) → free_last p.base p.objects.mutexes t ≡ next → HasAsked p → HasAsked (unwrap_or (option_map (with_freed p) next) p)
+freed_asked p t None is has = has
+freed_asked p t (Some m) is has = asks_are_kept.freed p t m is has
 
-pub freed_orderly : (st now : State) (t : ℕ) → HavePlaces st.base → HasNone st → IsOrderly st.base st.objects → now ≡ freed_by t st → IsOrderly now.base now.objects
-freed_orderly st now t places none all is =
-    subst (λ (s : State). IsOrderly s.base s.objects) (sym is) (orderly_of _ (freed_orders (parts_of st) t (free_last st.base st.objects.mutexes t) refl (orders_of (parts_of st) places none.devices all)))
+pub freed_sound : (st now : State) (t : ℕ) → HavePlaces st.base → IsWhole st → HasNone st → IsSound st.base st.objects → now ≡ freed_by t st → IsSound now.base now.objects
+freed_sound st now t places whole none all is =
+    subst (λ (s : State). IsSound s.base s.objects) (sym is) (sound_of _ (freed_asked (parts_of st) t (free_last st.base st.objects.mutexes t) refl (asked_of st places whole none all)))
 
 freed_left : (p : Parts) (m : Mutexes) (found : Option Mutexes) → m ≡ unwrap_or found p.objects.mutexes → with_freed p m ≡ unwrap_or (option_map (with_freed p) found) p
 freed_left p m None is = ap (with_freed p) is

@@ -1,5 +1,5 @@
 -- What a machine keeps between its calls, at the start and after a step.
-use Rattle.std.proofs.Common.{if◌then◌else◌, ◌≡◌, ℕ, ◌+◌, ◌<◌, ◌≤◌, Bool, true, false, not, ◌&&◌, List, [], ◌∷◌, ◌++◌, Option, Some, None, refl, sym, ◌∙◌, ap, subst, arith, append_assoc, append-nil, length}
+use Rattle.std.proofs.Common.{if◌then◌else◌, ◌≡◌, ℕ, ◌+◌, ◌<◌, ◌≤◌, Bool, true, false, not, ◌&&◌, List, [], ◌∷◌, ◌++◌, Option, Some, None, refl, sym, ◌∙◌, ap, subst, arith, append_assoc, append-nil}
 use Rattle.tk_types.specs.declared.line.Line.{Line}
 use Rattle.tk_types.specs.declared.line.Line.TheVariants as lines
 use Rattle.tk_types.specs.declared.run.End.{End}
@@ -11,25 +11,24 @@ use Rattle.kernel_model.specs.Tasks.Waits.{HavePlaces}
 use Rattle.device_model.specs.Devices.Tables.{Devices}
 use Rattle.device_model.specs.Devices.Handing.{any_given, any_queued}
 use Rattle.machine_model.specs.States.State.{State, parts_of, state_start}
-use Rattle.machine_model.specs.States.Waits.{IsOrderly}
 use Rattle.machine_model.specs.Events.Follow.{dispatched}
 use Rattle.machine_model.specs.Events.Rest.{IsAtRest}
 use Rattle.machine_model.specs.Runs.Machine.{Machine, after_pace}
 use Rattle.machine_model.specs.Runs.Reached as reached
-use Rattle.machine_model.specs.Runs.Reached.{Move, Steps, state_after}
+use Rattle.machine_model.specs.Runs.Reached.{Move, Steps}
 use Rattle.machine_model.specs.Runs.Step.{Pace, Ends, Needs, Went, any_unfinished, counted, ended_or_went, has_event, is_quiet, needed, needed_or, step, step_if, worked}
 use Rattle.machine_model.specs.Runs.Trace.{last_of, start}
-use Rattle.machine_lemmas.proofs.Reached.{kept_move}
 use Rattle.machine_lemmas.proofs.ReachedRest.{moved_rest, start_rest}
-use Rattle.machine_lemmas.proofs.Walk.{of_kept}
-use Rattle.order_lemmas.proofs.ReachedOrders.{HasOrders, orders_are_kept, reached_orderly}
+use Rattle.ask_lemmas.proofs.ReachedAsked.{HasAsked, asks_are_kept, start_asked}
+use Rattle.ask_lemmas.proofs.WholeWalk.{kept_move}
 use Rattle.count_lemmas.specs.Counts.{IsCounted}
 use Rattle.count_lemmas.proofs.Runs.{needs_counted}
 use Rattle.count_lemmas.proofs.Steps.{start_counted, start_unstepped, step_counted, step_left}
 use Rattle.step_lemmas.specs.Budgets.{IsGoing}
 use Rattle.step_lemmas.specs.Built.{HasNone, IsBuilt}
+use Rattle.step_lemmas.specs.Sound.{IsSound, IsWhole}
 use Rattle.step_lemmas.specs.Pace.{NeedsNone, lines_with, over_with}
-use Rattle.step_lemmas.proofs.Sound.{none_few, orderly_of, orders_of}
+use Rattle.step_lemmas.proofs.Sound.{asked_of, none_few, sound_of}
 
 -- ---- a step where there is no device
 
@@ -122,9 +121,8 @@ paced m Ends state over all unended at_state at_over at_lines =
 
 -- ---- what the machine keeps
 
-orderly_at_start : (script : Script) (mode : Mode) (budget : ℕ) → IsBuilt script → IsOrderly (start script).state.base (start script).state.objects
-unfolding state_after
-orderly_at_start script mode budget built = reached_orderly script mode budget [] built.runnable
+sound_at_start : (script : Script) → IsBuilt script → IsSound (start script).state.base (start script).state.objects
+sound_at_start script built = sound_of _ (start_asked script built.runnable)
 
 pub going_at_start : (script : Script) (mode : Mode) (budget : ℕ) (first state : State) → IsBuilt script → 1 ≤ budget → budget ≤ 1000000 → first ≡ state_start script → state ≡ (dispatched 0 first).state → IsGoing script mode budget state None false
 unfolding start
@@ -135,7 +133,7 @@ going_at_start script mode budget first state built low high at_first at_state =
       limit = high;
       left = λ f o. let none : state.steps ≡ 0 = ap (λ (st : State). st.steps) at ∙ start_unstepped script in omega (arith, none, low);
       counts = λ f o. subst IsCounted (sym at) (start_counted script);
-      orderly = λ f o. subst (λ (st : State). IsOrderly st.base st.objects) (sym at) (orderly_at_start script mode budget built);
+      sound = λ f o. subst (λ (st : State). IsSound st.base st.objects) (sym at) (sound_at_start script built);
       rest = λ f o. subst (IsAtRest mode) (sym at) (start_rest script mode built.runnable);
     }
 
@@ -150,18 +148,18 @@ left_of script mode budget old (Went event (Some end)) is below counts unended =
 left_of script mode budget old (Needs waiting) is below counts unended = let same = (needs_counted script mode budget old waiting counts is).1 in omega (arith, same, below)
 left_of script mode budget old Ends is below counts unended = absurd (cc unended)
 
-pub going_after_step : (script : Script) (mode : Mode) (budget : ℕ) (old new : State) (over : Option End) (failed : Bool) → IsBuilt script → budget ≤ 1000000 → old.steps < budget → IsCounted old → HavePlaces old.base → length old.base.tasks ≡ 256 → HasNone old →
-    IsOrderly old.base old.objects → IsAtRest mode old → new ≡ reached.after_pace old (step script mode budget old) → over ≡ over_with (step script mode budget old) → IsGoing script mode budget new over failed
-going_after_step script mode budget old new over failed built high below counts places slots none orderly rest at_new at_over =
-    let has : HasOrders (parts_of old) = orders_of (parts_of old) places none.devices orderly in
-    let kept : HasOrders (parts_of (reached.after_pace old (step script mode budget old))) = kept_move HasOrders (of_kept HasOrders orders_are_kept) script mode budget old Steps has in
+pub going_after_step : (script : Script) (mode : Mode) (budget : ℕ) (old new : State) (over : Option End) (failed : Bool) → IsBuilt script → budget ≤ 1000000 → old.steps < budget → IsCounted old → HavePlaces old.base → IsWhole old → HasNone old →
+    IsSound old.base old.objects → IsAtRest mode old → new ≡ reached.after_pace old (step script mode budget old) → over ≡ over_with (step script mode budget old) → IsGoing script mode budget new over failed
+going_after_step script mode budget old new over failed built high below counts places whole none sound rest at_new at_over =
+    let has : HasAsked (parts_of old) = asked_of old places whole none sound in
+    let kept : HasAsked (parts_of (reached.after_pace old (step script mode budget old))) = kept_move HasAsked asks_are_kept script mode budget old Steps has in
     record {
       built = built;
       limit = high;
       left = λ f o. subst (λ (st : State). st.steps < budget) (sym at_new) (left_of script mode budget old (step script mode budget old) refl below counts (sym at_over ∙ o));
       counts = λ f o. subst IsCounted (sym at_new) (counts_of script mode budget old (step script mode budget old) refl high below counts (sym at_over ∙ o));
-      orderly = λ f o. subst (λ (st : State). IsOrderly st.base st.objects) (sym at_new) (orderly_of _ kept);
-      rest = λ f o. subst (IsAtRest mode) (sym at_new) (moved_rest script mode budget old Steps (record { base = slots; few = none_few (parts_of old) none.devices }) rest);
+      sound = λ f o. subst (λ (st : State). IsSound st.base st.objects) (sym at_new) (sound_of _ kept);
+      rest = λ f o. subst (IsAtRest mode) (sym at_new) (moved_rest script mode budget old Steps (record { base = whole.tasks; few = none_few (parts_of old) none.devices }) rest);
     }
 
 pub none_left : (over : Option End) → ((end : End) → over ≡ Some end → ⊥) → over ≡ None

@@ -11,11 +11,11 @@ use Rattle.kernel_model.specs.Tasks.Waits.{HavePlaces}
 use Rattle.kernel_model.specs.Words.Checks.{plain}
 use Rattle.kernel_model.specs.SemFlags.Tables.{SemFlagParts, SemFlags, serve_sem_flag}
 use Rattle.object_model.specs.Mutexes.Tables.{MutexParts, Mutexes, serve_mutexes}
-use Rattle.object_model.specs.Mails.Tables.{MailParts, mails_start}
+use Rattle.object_model.specs.Mails.Tables.{MailParts, Mails}
 use Rattle.object_model.specs.Mails.Boxes.{serve_mailboxes}
 use Rattle.object_model.specs.Mails.Buffers.{serve_buffers}
 use Rattle.object_model.specs.Servings.{first_serving as first_object}
-use Rattle.object_model.specs.Pools.Tables.{PoolParts, pools_start}
+use Rattle.object_model.specs.Pools.Tables.{PoolParts, Pools}
 use Rattle.object_model.specs.Pools.Fixed.{serve_fixed_pools}
 use Rattle.object_model.specs.Pools.Variable.{serve_variable_pools}
 use Rattle.device_model.specs.Devices.Tables.{Devices}
@@ -23,16 +23,16 @@ use Rattle.device_model.specs.Devices.Endings.{DevParts}
 use Rattle.device_model.specs.Devices.Servings.{serve_acceptances, serve_closes, serve_endings, serve_suspension, suspended_unless, suspension_by}
 use Rattle.device_model.specs.Devices.Handing.{any_given}
 use Rattle.device_model.specs.Devices.Suspension.{events_sent}
-use Rattle.machine_model.specs.States.Objects.{Parts, dev_parts, first_serving, mail_parts, pool_parts, serve_object, with_devices, with_mails, with_mutexes, with_pools, with_sem_flags}
+use Rattle.machine_model.specs.States.Objects.{Parts, dev_parts, first_serving, serve_object, with_devices, with_mails, with_mutexes, with_pools, with_sem_flags}
 use Rattle.machine_model.specs.States.State.{State, parts_of, with_parts}
-use Rattle.machine_model.specs.States.Waits.{IsOrderly}
 use Rattle.machine_model.specs.Events.Settle.{handed, refreshed, served_within}
 use Rattle.machine_lemmas.proofs.HandedTwice.{hand_over_none}
 use Rattle.machine_lemmas.proofs.Settling.{next_served, refreshed_keeps}
-use Rattle.order_lemmas.proofs.ReachedOrders.{HasOrders, orders_are_kept}
+use Rattle.ask_lemmas.proofs.ReachedAsked.{HasAsked, asks_are_kept}
 use Rattle.step_lemmas.specs.Built.{HasNone, no_devices}
-use Rattle.step_lemmas.specs.Kinds.{mutexes, sem_flags, served_by, suspension}
-use Rattle.step_lemmas.proofs.Sound.{orderly_of, orders_of}
+use Rattle.step_lemmas.specs.Sound.{IsSound, IsWhole}
+use Rattle.step_lemmas.specs.Kinds.{Serves, behind_boxes, behind_buffers, buffers, fixed_pools, mailboxes, mutexes, of_devices, sem_flags, served_by, suspension, variable_pools}
+use Rattle.step_lemmas.proofs.Sound.{asked_of, sound_of}
 
 -- ---- a family's serving is one of the state
 
@@ -44,25 +44,66 @@ mapped_left : {A B : Type 0} → (f : A → B) (x : Option A) (q now : A) → no
 mapped_left f None q now left = ap f left
 mapped_left f (Some y) q now left = ap f left
 
+-- what a family serves of its parts is what the kind serves of all parts, where the parts of the code are those of the state
+family_serves : {A : Type 0} → (kind : Parts → Option Parts) (view st : State) (f : A → Parts) (found : Option A) (q now : A) (some : Bool) → kind (parts_of view) ≡ option_map f found → f q ≡ parts_of view → view ≡ st →
+    some ≡ is_some found → now ≡ unwrap_or found q → Serves kind st (with_parts view (f now)) some
+family_serves kind view st f found q now some is whole same served left =
+    subst (λ (s : State). Serves kind s (with_parts view (f now)) some) same (record {
+      served = served ∙ sym (mapped_is f found) ∙ sym (ap is_some is);
+      left = ap (with_parts view) (mapped_left f found q now left ∙ ap (unwrap_or (option_map f found)) whole ∙ sym (ap (λ (p : Option Parts). unwrap_or p (parts_of view)) is));
+    })
+
 abbrev sem_flag_parts : Base → SemFlags → SemFlagParts
 sem_flag_parts b s = record { base = b; table = s }
 
 abbrev mutex_parts : Base → Mutexes → MutexParts
 mutex_parts b m = record { base = b; table = m }
 
-pub sem_flags_is : (st : State) → is_some (sem_flags (parts_of st)) ≡ is_some (serve_sem_flag st.base st.objects.sem_flags)
-sem_flags_is st = mapped_is (with_sem_flags (parts_of st)) _
+abbrev mails_beside : Base → Mails → List ℕ → MailParts
+mails_beside b m memory = record { base = b; table = m; memory = memory }
 
-pub sem_flags_left : (st : State) (b : Base) (s : SemFlags) → sem_flag_parts b s ≡ unwrap_or (serve_sem_flag st.base st.objects.sem_flags) (sem_flag_parts st.base st.objects.sem_flags) →
-    record st { base = b; objects = record st.objects { sem_flags = s } } ≡ served_by sem_flags st
-sem_flags_left st b s left = ap (with_parts st) (mapped_left (with_sem_flags (parts_of st)) (serve_sem_flag st.base st.objects.sem_flags) (sem_flag_parts st.base st.objects.sem_flags) (sem_flag_parts b s) left)
+abbrev pools_beside : Base → Pools → PoolParts
+pools_beside b m = record { base = b; table = m }
 
-pub mutexes_is : (st : State) → is_some (mutexes (parts_of st)) ≡ is_some (serve_mutexes st.base st.objects.mutexes)
-mutexes_is st = mapped_is (with_mutexes (parts_of st)) _
+pub sem_flags_serve : (view st : State) (b : Base) (s : SemFlags) (some : Bool) → view ≡ st → some ≡ is_some (serve_sem_flag view.base view.objects.sem_flags) →
+    sem_flag_parts b s ≡ unwrap_or (serve_sem_flag view.base view.objects.sem_flags) (sem_flag_parts view.base view.objects.sem_flags) →
+    Serves sem_flags st (record view { base = b; objects = record view.objects { sem_flags = s } }) some
+sem_flags_serve view st b s some same served left =
+    family_serves sem_flags view st (with_sem_flags (parts_of view)) (serve_sem_flag view.base view.objects.sem_flags) (sem_flag_parts view.base view.objects.sem_flags) (sem_flag_parts b s) some refl refl same served left
 
-pub mutexes_left : (st : State) (b : Base) (m : Mutexes) → mutex_parts b m ≡ unwrap_or (serve_mutexes st.base st.objects.mutexes) (mutex_parts st.base st.objects.mutexes) →
-    record st { base = b; objects = record st.objects { mutexes = m } } ≡ served_by mutexes st
-mutexes_left st b m left = ap (with_parts st) (mapped_left (with_mutexes (parts_of st)) (serve_mutexes st.base st.objects.mutexes) (mutex_parts st.base st.objects.mutexes) (mutex_parts b m) left)
+pub mutexes_serve : (view st : State) (b : Base) (m : Mutexes) (some : Bool) → view ≡ st → some ≡ is_some (serve_mutexes view.base view.objects.mutexes) →
+    mutex_parts b m ≡ unwrap_or (serve_mutexes view.base view.objects.mutexes) (mutex_parts view.base view.objects.mutexes) →
+    Serves mutexes st (record view { base = b; objects = record view.objects { mutexes = m } }) some
+mutexes_serve view st b m some same served left =
+    family_serves mutexes view st (with_mutexes (parts_of view)) (serve_mutexes view.base view.objects.mutexes) (mutex_parts view.base view.objects.mutexes) (mutex_parts b m) some refl refl same served left
+
+pub mailboxes_serve : (view st : State) (b : Base) (m : Mails) (some : Bool) → view ≡ st → some ≡ is_some (serve_mailboxes (mails_beside view.base view.objects.mails view.memory)) →
+    mails_beside b m view.memory ≡ unwrap_or (serve_mailboxes (mails_beside view.base view.objects.mails view.memory)) (mails_beside view.base view.objects.mails view.memory) →
+    Serves mailboxes st (record view { base = b; objects = record view.objects { mails = m } }) some
+mailboxes_serve view st b m some same served left =
+    let before : MailParts = mails_beside view.base view.objects.mails view.memory in
+    family_serves mailboxes view st (with_mails (parts_of view)) (serve_mailboxes before) before (mails_beside b m view.memory) some refl refl same served left
+
+pub buffers_serve : (view st : State) (b : Base) (m : Mails) (memory : List ℕ) (some : Bool) → view ≡ st → some ≡ is_some (serve_buffers (mails_beside view.base view.objects.mails view.memory)) →
+    mails_beside b m memory ≡ unwrap_or (serve_buffers (mails_beside view.base view.objects.mails view.memory)) (mails_beside view.base view.objects.mails view.memory) →
+    Serves buffers st (record view { base = b; objects = record view.objects { mails = m }; memory = memory }) some
+buffers_serve view st b m memory some same served left =
+    let before : MailParts = mails_beside view.base view.objects.mails view.memory in
+    family_serves buffers view st (with_mails (parts_of view)) (serve_buffers before) before (mails_beside b m memory) some refl refl same served left
+
+pub fixed_serve : (view st : State) (b : Base) (m : Pools) (some : Bool) → view ≡ st → some ≡ is_some (serve_fixed_pools (pools_beside view.base view.objects.pools)) →
+    pools_beside b m ≡ unwrap_or (serve_fixed_pools (pools_beside view.base view.objects.pools)) (pools_beside view.base view.objects.pools) →
+    Serves fixed_pools st (record view { base = b; objects = record view.objects { pools = m } }) some
+fixed_serve view st b m some same served left =
+    let before : PoolParts = pools_beside view.base view.objects.pools in
+    family_serves fixed_pools view st (with_pools (parts_of view)) (serve_fixed_pools before) before (pools_beside b m) some refl refl same served left
+
+pub variable_serve : (view st : State) (b : Base) (m : Pools) (some : Bool) → view ≡ st → some ≡ is_some (serve_variable_pools (pools_beside view.base view.objects.pools)) →
+    pools_beside b m ≡ unwrap_or (serve_variable_pools (pools_beside view.base view.objects.pools)) (pools_beside view.base view.objects.pools) →
+    Serves variable_pools st (record view { base = b; objects = record view.objects { pools = m } }) some
+variable_serve view st b m some same served left =
+    let before : PoolParts = pools_beside view.base view.objects.pools in
+    family_serves variable_pools view st (with_pools (parts_of view)) (serve_variable_pools before) before (pools_beside b m) some refl refl same served left
 
 -- ---- kinds of which there is no object
 
@@ -112,26 +153,17 @@ none_closed p none = rw none refl
 
 -- ---- the kinds one after another
 
-abbrev pub mail_kind : (MailParts → Option MailParts) → Parts → Option Parts
-mail_kind serve p = option_map (with_mails p) (serve (mail_parts p))
-
-abbrev pub pool_kind : (PoolParts → Option PoolParts) → Parts → Option Parts
-pool_kind serve p = option_map (with_pools p) (serve (pool_parts p))
-
-abbrev pub device_kind : (DevParts → Option DevParts) → Parts → Option Parts
-device_kind serve p = option_map (with_devices p) (serve (dev_parts p))
-
-pub record Serves (kind : Parts → Option Parts) (old now : State) (some : Bool) : Type 0 where
-  pub served : some ≡ is_some (kind (parts_of old))
-  pub left : now ≡ served_by kind old
-
 left_none : (kind : Parts → Option Parts) (old : State) (found : Option Parts) → is_some found ≡ false → with_parts old (unwrap_or found (parts_of old)) ≡ old
 left_none kind old None none = refl
 left_none kind old (Some p) none = absurd (cc none)
 
 -- a kind that serves nobody changes nothing
-pub unchanged : (kind : Parts → Option Parts) (old now : State) → Serves kind old now false → now ≡ old
+unchanged : (kind : Parts → Option Parts) (old now : State) → Serves kind old now false → now ≡ old
 unchanged kind old now it = it.left ∙ left_none kind old (kind (parts_of old)) (sym it.served)
+
+-- so what calls and servings ask still holds
+pub still_sound : (kind : Parts → Option Parts) (old now : State) (some : Bool) → Serves kind old now some → some ≡ false → IsSound old.base old.objects → IsSound now.base now.objects
+still_sound kind old now some it none sound = subst (λ (s : State). IsSound s.base s.objects) (sym (unchanged kind old now (subst (λ (r : Bool). Serves kind old now r) none it))) sound
 
 first_here : (kind : Parts → Option Parts) (later : List (Parts → Option Parts)) (p : Parts) (found : Option Parts) → kind p ≡ found → is_some found ≡ true → first_serving (kind ∷ later) p ≡ found
 unfolding first_serving
@@ -143,38 +175,23 @@ unfolding first_serving
 first_later kind later p None is none = rw is refl
 first_later kind later p (Some q) is none = absurd (cc none)
 
--- the first kind serves
-pub serves_here : (kind : Parts → Option Parts) (later : List (Parts → Option Parts)) (old now : State) → Serves kind old now true → Serves (first_serving (kind ∷ later)) old now true
-serves_here kind later old now it =
-    let same = first_here kind later (parts_of old) (kind (parts_of old)) refl (sym it.served) in
-    record { served = it.served ∙ sym (ap is_some same); left = it.left ∙ sym (ap (λ found. with_parts old (unwrap_or found (parts_of old))) same) }
+-- a kind serves one, and so does it with those behind it
+pub serves_here : (kind : Parts → Option Parts) (later : List (Parts → Option Parts)) (old now : State) (some : Bool) → Serves kind old now some → some ≡ true → Serves (first_serving (kind ∷ later)) old now true
+serves_here kind later old now some it one =
+    let same = first_here kind later (parts_of old) (kind (parts_of old)) refl (sym it.served ∙ one) in
+    record { served = sym one ∙ it.served ∙ sym (ap is_some same); left = it.left ∙ sym (ap (λ found. with_parts old (unwrap_or found (parts_of old))) same) }
 
--- it doesn't, and what comes behind it decides
-pub serves_later : (kind : Parts → Option Parts) (later : List (Parts → Option Parts)) (old mid now : State) (some : Bool) → Serves kind old mid false → Serves (first_serving later) mid now some → Serves (first_serving (kind ∷ later)) old now some
-serves_later kind later old mid now some it rest =
-    let same = first_later kind later (parts_of old) (kind (parts_of old)) refl (sym it.served) in
-    let here : Serves (first_serving later) old now some = subst (λ (st : State). Serves (first_serving later) st now some) (unchanged kind old mid it) rest in
+-- it serves none, and what comes behind it decides
+pub serves_later : (kind : Parts → Option Parts) (later : List (Parts → Option Parts)) (old mid now : State) (none some : Bool) → Serves kind old mid none → none ≡ false → Serves (first_serving later) mid now some → Serves (first_serving (kind ∷ later)) old now some
+serves_later kind later old mid now none some it not rest =
+    let same = first_later kind later (parts_of old) (kind (parts_of old)) refl (sym it.served ∙ not) in
+    let first : Serves kind old mid false = subst (λ (r : Bool). Serves kind old mid r) not it in
+    let here : Serves (first_serving later) old now some = subst (λ (st : State). Serves (first_serving later) st now some) (unchanged kind old mid first) rest in
     record { served = here.served ∙ sym (ap is_some same); left = here.left ∙ sym (ap (λ found. with_parts old (unwrap_or found (parts_of old))) same) }
 
 -- the kinds of which there is no object
 
-none_boxed : (p : Parts) → p.objects.mails ≡ mails_start → mail_kind serve_mailboxes p ≡ None
-unfolding serve_mailboxes first_object
-none_boxed p none = rw none refl
-
-none_buffered : (p : Parts) → p.objects.mails ≡ mails_start → mail_kind serve_buffers p ≡ None
-unfolding serve_buffers first_object
-none_buffered p none = rw none refl
-
-none_fixed : (p : Parts) → p.objects.pools ≡ pools_start → pool_kind serve_fixed_pools p ≡ None
-unfolding serve_fixed_pools first_object
-none_fixed p none = rw none refl
-
-none_variable : (p : Parts) → p.objects.pools ≡ pools_start → pool_kind serve_variable_pools p ≡ None
-unfolding serve_variable_pools first_object
-none_variable p none = rw none refl
-
-device_none : (serve : DevParts → Option DevParts) (p : Parts) → serve (dev_parts p) ≡ None → device_kind serve p ≡ None
+device_none : (serve : DevParts → Option DevParts) (p : Parts) → serve (dev_parts p) ≡ None → of_devices serve p ≡ None
 device_none serve p none = ap (option_map (with_devices p)) none
 
 -- a kind that can serve nobody is passed
@@ -189,51 +206,57 @@ last_kind : (kind : Parts → Option Parts) (p : Parts) → first_serving (kind 
 unfolding first_serving
 last_kind kind p = only_last (kind p)
 
--- behind mutexes only the suspension can serve
-abbrev pub BehindMutexes : List (Parts → Option Parts)
-BehindMutexes = mail_kind serve_buffers ∷ pool_kind serve_fixed_pools ∷ pool_kind serve_variable_pools ∷ device_kind serve_acceptances ∷ device_kind serve_endings ∷ device_kind serve_closes ∷ suspension ∷ []
+-- behind pools only the suspension can serve
+abbrev behind_pools : List (Parts → Option Parts)
+behind_pools = of_devices serve_acceptances ∷ of_devices serve_endings ∷ of_devices serve_closes ∷ suspension ∷ []
 
-last_found : (p : Parts) → p.objects.mails ≡ mails_start → p.objects.pools ≡ pools_start → p.objects.devices ≡ no_devices → first_serving BehindMutexes p ≡ suspension p
-last_found p mails pools devices =
-    passes (mail_kind serve_buffers) _ p (none_buffered p mails)
-    ∙ passes (pool_kind serve_fixed_pools) _ p (none_fixed p pools)
-    ∙ passes (pool_kind serve_variable_pools) _ p (none_variable p pools)
-    ∙ passes (device_kind serve_acceptances) _ p (device_none serve_acceptances p (none_accepted p devices))
-    ∙ passes (device_kind serve_endings) _ p (device_none serve_endings p (none_ended p devices))
-    ∙ passes (device_kind serve_closes) _ p (device_none serve_closes p (none_closed p devices))
+last_found : (p : Parts) → p.objects.devices ≡ no_devices → first_serving behind_pools p ≡ suspension p
+last_found p devices =
+    passes (of_devices serve_acceptances) _ p (device_none serve_acceptances p (none_accepted p devices))
+    ∙ passes (of_devices serve_endings) _ p (device_none serve_endings p (none_ended p devices))
+    ∙ passes (of_devices serve_closes) _ p (device_none serve_closes p (none_closed p devices))
     ∙ last_kind suspension p
 
 serves_as : (kind other : Parts → Option Parts) (old now : State) (some : Bool) → other (parts_of old) ≡ kind (parts_of old) → Serves kind old now some → Serves other old now some
 serves_as kind other old now some same it = record { served = it.served ∙ sym (ap is_some same); left = it.left ∙ sym (ap (λ found. with_parts old (unwrap_or found (parts_of old))) same) }
 
--- mailboxes stand between semaphores with event flags and mutexes
-behind_boxes : (old now : State) (some : Bool) → HasNone old → Serves (first_serving (mutexes ∷ BehindMutexes)) old now some → Serves (first_serving (mail_kind serve_mailboxes ∷ mutexes ∷ BehindMutexes)) old now some
-behind_boxes old now some none it = serves_as (first_serving (mutexes ∷ BehindMutexes)) _ old now some (passes (mail_kind serve_mailboxes) (mutexes ∷ BehindMutexes) (parts_of old) (none_boxed (parts_of old) none.mails)) it
+-- a fixed pool serves, or else a variable one, or else the suspension, in the form of the code
+pub fixed_first : (old now : State) (some : Bool) → Serves fixed_pools old now some → some ≡ true → Serves (first_serving behind_buffers) old now true
+fixed_first old now some it one = serves_here fixed_pools _ old now some it one
 
-of_all : (old now : State) (some : Bool) → Serves (first_serving (sem_flags ∷ mail_kind serve_mailboxes ∷ mutexes ∷ BehindMutexes)) old now some → Serves serve_object old now some
+pub variable_then : (old mid now : State) (none some : Bool) → Serves fixed_pools old mid none → none ≡ false → Serves variable_pools mid now some → some ≡ true → Serves (first_serving behind_buffers) old now true
+variable_then old mid now none some first not it one = serves_later fixed_pools _ old mid now none true first not (serves_here variable_pools behind_pools mid now some it one)
+
+pub suspension_last : (old mid next now : State) (none nor some : Bool) → HasNone next → Serves fixed_pools old mid none → none ≡ false → Serves variable_pools mid next nor → nor ≡ false → Serves suspension next now some → Serves (first_serving behind_buffers) old now some
+suspension_last old mid next now none nor some devices first not second neither it =
+    serves_later fixed_pools _ old mid now none some first not
+    (serves_later variable_pools behind_pools mid next now nor some second neither (serves_as suspension (first_serving behind_pools) next now some (last_found (parts_of next) devices.devices) it))
+
+-- a mutex serves, or else a message buffer, or else what is behind them
+pub mutex_first : (old now : State) (some : Bool) → Serves mutexes old now some → some ≡ true → Serves (first_serving behind_boxes) old now true
+mutex_first old now some it one = serves_here mutexes _ old now some it one
+
+pub buffer_then : (old mid now : State) (none some : Bool) → Serves mutexes old mid none → none ≡ false → Serves buffers mid now some → some ≡ true → Serves (first_serving behind_boxes) old now true
+buffer_then old mid now none some first not it one = serves_later mutexes _ old mid now none true first not (serves_here buffers behind_buffers mid now some it one)
+
+pub pool_last : (old mid next now : State) (none nor some : Bool) → Serves mutexes old mid none → none ≡ false → Serves buffers mid next nor → nor ≡ false → Serves (first_serving behind_buffers) next now some → Serves (first_serving behind_boxes) old now some
+pool_last old mid next now none nor some first not second neither it =
+    serves_later mutexes _ old mid now none some first not (serves_later buffers behind_buffers mid next now nor some second neither it)
+
+-- a semaphore or an event flag serves, or else a mailbox, or else what is behind them
+of_all : (old now : State) (some : Bool) → Serves (first_serving (sem_flags ∷ mailboxes ∷ behind_boxes)) old now some → Serves serve_object old now some
 unfolding serve_object
 of_all old now some it = record { served = it.served; left = it.left }
 
--- a semaphore or an event flag serves
-pub first_serves : (old now : State) → Serves sem_flags old now true → Serves serve_object old now true
-first_serves old now it = of_all old now true (serves_here sem_flags _ old now it)
+pub sem_flag_first : (old now : State) (some : Bool) → Serves sem_flags old now some → some ≡ true → Serves serve_object old now true
+sem_flag_first old now some it one = of_all old now true (serves_here sem_flags _ old now some it one)
 
-none_after : (old mid : State) → mid ≡ old → HasNone old → HasNone mid
-none_after old mid same none = subst HasNone (sym same) none
+pub mailbox_then : (old mid now : State) (none some : Bool) → Serves sem_flags old mid none → none ≡ false → Serves mailboxes mid now some → some ≡ true → Serves serve_object old now true
+mailbox_then old mid now none some first not it one = of_all old now true (serves_later sem_flags _ old mid now none true first not (serves_here mailboxes behind_boxes mid now some it one))
 
--- else a mutex does
-pub second_serves : (old mid now : State) → HasNone old → Serves sem_flags old mid false → Serves mutexes mid now true → Serves serve_object old now true
-second_serves old mid now none one two =
-    of_all old now true
-    (serves_later sem_flags _ old mid now true one (behind_boxes mid now true (none_after old mid (unchanged sem_flags old mid one) none) (serves_here mutexes BehindMutexes mid now two)))
-
--- else a suspension is served, or nobody is
-pub last_serves : (old mid next now : State) (some : Bool) → HasNone old → Serves sem_flags old mid false → Serves mutexes mid next false → Serves suspension next now some → Serves serve_object old now some
-last_serves old mid next now some none one two three =
-    let here : HasNone mid = none_after old mid (unchanged sem_flags old mid one) none in
-    let there : HasNone next = none_after mid next (unchanged mutexes mid next two) here in
-    let rest : Serves (first_serving BehindMutexes) next now some = serves_as suspension (first_serving BehindMutexes) next now some (last_found (parts_of next) there.mails there.pools there.devices) three in
-    of_all old now some (serves_later sem_flags _ old mid now some one (behind_boxes mid now some here (serves_later mutexes BehindMutexes mid next now some two rest)))
+pub mutex_last : (old mid next now : State) (none nor some : Bool) → Serves sem_flags old mid none → none ≡ false → Serves mailboxes mid next nor → nor ≡ false → Serves (first_serving behind_boxes) next now some → Serves serve_object old now some
+mutex_last old mid next now none nor some first not second neither it =
+    of_all old now some (serves_later sem_flags _ old mid now none some first not (serves_later mailboxes behind_boxes mid next now nor some second neither it))
 
 -- nobody waits for a suspension, in the form of the code
 pub none_waits : (view st : State) (found : Option ℕ) → view ≡ st → HasNone st → found ≡ slice_get (queue Fifo view.base 648) 0 → found ≡ None → Serves suspension st st false
@@ -256,20 +279,20 @@ one_waits view st found t base answer same none at one released told =
 
 -- ---- the order of all queues through servings
 
-orders_of_next : (p : Parts) (next : Option Parts) → serve_object p ≡ next → HasOrders p → HasOrders (unwrap_or next p)
-orders_of_next p None is has = has
-orders_of_next p (Some q) is has = orders_are_kept.served p q (has.places.few) is has
+asked_of_next : (p : Parts) (next : Option Parts) → serve_object p ≡ next → HasAsked p → HasAsked (unwrap_or next p)
+asked_of_next p None is has = has
+asked_of_next p (Some q) is has = asks_are_kept.served p q (has.orders.places.few) is has
 
 -- each task that waits still stands in its order
-pub served_orderly : (st now : State) → HavePlaces st.base → HasNone st → IsOrderly st.base st.objects → now ≡ served_by serve_object st → IsOrderly now.base now.objects
-served_orderly st now places none all same =
-    let has = orders_of_next (parts_of st) (serve_object (parts_of st)) refl (orders_of (parts_of st) places none.devices all) in
-    subst (λ (st : State). IsOrderly st.base st.objects) (sym same) (orderly_of _ has)
+pub served_sound : (st now : State) → HavePlaces st.base → IsWhole st → HasNone st → IsSound st.base st.objects → now ≡ served_by serve_object st → IsSound now.base now.objects
+served_sound st now places whole none all same =
+    let has = asked_of_next (parts_of st) (serve_object (parts_of st)) refl (asked_of st places whole none all) in
+    subst (λ (st : State). IsSound st.base st.objects) (sym same) (sound_of _ has)
 
-pub refreshed_orderly : (st now : State) → HavePlaces st.base → HasNone st → IsOrderly st.base st.objects → now ≡ with_parts st (refreshed (parts_of st)) → IsOrderly now.base now.objects
-refreshed_orderly st now places none all same =
-    let has = refreshed_keeps HasOrders orders_are_kept.refreshed (parts_of st) (orders_of (parts_of st) places none.devices all) in
-    subst (λ (st : State). IsOrderly st.base st.objects) (sym same) (orderly_of _ has)
+pub refreshed_sound : (st now : State) → HavePlaces st.base → IsWhole st → HasNone st → IsSound st.base st.objects → now ≡ with_parts st (refreshed (parts_of st)) → IsSound now.base now.objects
+refreshed_sound st now places whole none all same =
+    let has = refreshed_keeps HasAsked asks_are_kept.refreshed (parts_of st) (asked_of st places whole none all) in
+    subst (λ (st : State). IsSound st.base st.objects) (sym same) (sound_of _ has)
 
 -- ---- one after another
 

@@ -1,7 +1,8 @@
--- The order of all queues, and that there is no device, through what happens to a state.
-use Rattle.std.proofs.Common.{◌≡◌, ℕ, zero, suc, Option, None, refl, sym, subst, arith}
+-- The order of all queues and what waiters have asked for, in the form in which every event keeps them, and that there is no device.
+use Rattle.std.proofs.Common.{◌≡◌, ℕ, zero, suc, List, Option, None, length, refl, sym, subst, arith}
 use Rattle.std.specs.Prelude.{replicate}
 use Rattle.std.specs.List.{slice_index_or}
+use Rattle.kernel_model.specs.Bodies.Statements.{memory_size}
 use Rattle.kernel_model.specs.Tasks.Waits.{HavePlaces}
 use Rattle.kernel_model.specs.Words.Orders.{entry}
 use Rattle.device_model.specs.declared.rows.Opened.{Opened}
@@ -13,7 +14,11 @@ use Rattle.machine_lemmas.proofs.KnownDevices.{AreKnown, OpenFits, WishFits}
 use Rattle.machine_lemmas.proofs.Servings.{FewDevices}
 use Rattle.order_lemmas.proofs.Moves.{HasNoZero}
 use Rattle.order_lemmas.proofs.ReachedOrders.{HasOrders}
-use Rattle.step_lemmas.specs.Built.{no_devices}
+use Rattle.machine_model.specs.States.State.{State, parts_of}
+use Rattle.ask_lemmas.proofs.LongMemory.{IsLong}
+use Rattle.ask_lemmas.proofs.ReachedAsked.{HasAsked, has_asked}
+use Rattle.step_lemmas.specs.Built.{HasNone, no_devices}
+use Rattle.step_lemmas.specs.Sound.{IsSound, IsWhole}
 
 -- ---- no device
 
@@ -37,9 +42,9 @@ none_zero = refl
 pub none_few : (p : Parts) → p.objects.devices ≡ no_devices → FewDevices p
 none_few p none = rw none (omega arith)
 
--- ---- the order of all queues, in the form in which it is carried through every event
+-- ---- in the form in which it is carried through every event
 
-pub orders_of : (p : Parts) → HavePlaces p.base → p.objects.devices ≡ no_devices → IsOrderly p.base p.objects → HasOrders p
+orders_of : (p : Parts) → HavePlaces p.base → p.objects.devices ≡ no_devices → IsOrderly p.base p.objects → HasOrders p
 orders_of p places none all = record {
   places = record { base = places; few = none_few p none };
   none = subst HasNoZero (sym none) none_zero;
@@ -47,5 +52,12 @@ orders_of p places none all = record {
   orders = all.each;
 }
 
-pub orderly_of : (p : Parts) → HasOrders p → IsOrderly p.base p.objects
-orderly_of p has = record { each = has.orders }
+whole_long : (memory : List ℕ) → length memory ≡ memory_size → IsLong memory
+whole_long memory is = omega (arith, is)
+
+pub asked_of : (st : State) → HavePlaces st.base → IsWhole st → HasNone st → IsSound st.base st.objects → HasAsked (parts_of st)
+asked_of st places whole none sound =
+    has_asked (parts_of st) (orders_of (parts_of st) places none.devices sound.orderly) whole.tasks whole.sending whole.into whole.sizes (whole_long st.memory whole.memory) sound.asked
+
+pub sound_of : (p : Parts) → HasAsked p → IsSound p.base p.objects
+sound_of p has = record { orderly = record { each = has.orders.orders }; asked = has.asked }

@@ -30,11 +30,11 @@ use Rattle.machine_model.specs.Runs.Turns.{done_turn, turn_of}
 use Rattle.machine_lemmas.proofs.HandingServes.{AllKinds, each_kind, first_none_by, mapped_none, no_kind, unmapped}
 use Rattle.machine_lemmas.proofs.Rest.{followed_none}
 use Rattle.machine_model.specs.declared.turns.Turn.{Turn}
-use Rattle.machine_model.specs.States.Waits.{IsOrderly}
 use Rattle.kernel_model.specs.Tasks.Waits.{HavePlaces}
-use Rattle.machine_lemmas.proofs.Walk.{kept_first, of_kept}
-use Rattle.order_lemmas.proofs.ReachedOrders.{HasOrders, orders_are_kept}
-use Rattle.step_lemmas.proofs.Sound.{orderly_of, orders_of}
+use Rattle.ask_lemmas.proofs.ReachedAsked.{HasAsked, asks_are_kept}
+use Rattle.ask_lemmas.proofs.WholeWalk.{kept_first}
+use Rattle.step_lemmas.specs.Sound.{IsSound, IsWhole}
+use Rattle.step_lemmas.proofs.Sound.{asked_of, sound_of}
 use Rattle.step_lemmas.specs.Built.{HasNone, no_devices}
 use Rattle.step_lemmas.proofs.Servings.{none_accepted, none_closed, none_ended}
 
@@ -140,12 +140,12 @@ still_at_rest mode view st now frames memory same none rest moved =
     subst (IsAtRest mode) (sym here) (still_rest mode st frames memory none.devices rest)
 
 -- each task that waits stands in its order after what is done at a step
-pub done_orderly : (script : Script) (mode : Mode) (n : ℕ) (old ready now : State) (turn : Turn) → HavePlaces old.base → HasNone old → IsOrderly old.base old.objects → ready ≡ made_pending script n old → turn ≡ turn_of ready → now ≡ (done_turn script mode n ready turn).state → IsOrderly now.base now.objects
-done_orderly script mode n old ready now turn places none all at_ready at_turn at_now =
-    let has : HasOrders (parts_of old) = orders_of (parts_of old) places none.devices all in
+pub done_sound : (script : Script) (mode : Mode) (n : ℕ) (old ready now : State) (turn : Turn) → HavePlaces old.base → IsWhole old → HasNone old → IsSound old.base old.objects → ready ≡ made_pending script n old → turn ≡ turn_of ready → now ≡ (done_turn script mode n ready turn).state → IsSound now.base now.objects
+done_sound script mode n old ready now turn places whole none all at_ready at_turn at_now =
+    let has : HasAsked (parts_of old) = asked_of old places whole none all in
     let here : now ≡ (done_turn script mode n (made_pending script n old) (turn_of (made_pending script n old))).state =
     at_now ∙ ap (λ (t : Turn). (done_turn script mode n ready t).state) at_turn ∙ ap (λ (s : State). (done_turn script mode n s (turn_of s)).state) at_ready in
-    subst (λ (s : State). IsOrderly s.base s.objects) (sym here) (orderly_of _ (kept_first HasOrders (of_kept HasOrders orders_are_kept) script mode n old has))
+    subst (λ (s : State). IsSound s.base s.objects) (sym here) (sound_of _ (kept_first HasAsked asks_are_kept script mode n old has))
 
 -- where what was done at a step leaves the state at rest, nothing follows
 rest_is_all : (script : Script) (mode : Mode) (n : ℕ) (old ready now : State) → IsAtRest mode now → ready ≡ made_pending script n old → now ≡ (done_turn script mode n ready (turn_of ready)).state →
@@ -228,8 +228,8 @@ pending_base script n st now is = ap (λ (s : State). s.base) (is ∙ pending_sa
 pub pending_objects : (script : Script) (n : ℕ) (st now : State) → now ≡ made_pending script n st → now.objects ≡ st.objects
 pending_objects script n st now is = ap (λ (s : State). s.objects) (is ∙ pending_same script n st)
 
-pub pending_orderly : (script : Script) (n : ℕ) (st now : State) → IsOrderly st.base st.objects → now ≡ made_pending script n st → IsOrderly now.base now.objects
-pending_orderly script n st now all is = subst (λ (s : State). IsOrderly s.base s.objects) (sym (is ∙ pending_same script n st)) (record { each = all.each })
+pub pending_sound : (script : Script) (n : ℕ) (st now : State) → IsSound st.base st.objects → now ≡ made_pending script n st → IsSound now.base now.objects
+pending_sound script n st now all is = subst (λ (s : State). IsSound s.base s.objects) (sym (is ∙ pending_same script n st)) all
 
 -- the ticks that are pending stay as they are where only interrupts are requested
 pub requested_ticks : (script : Script) (n : ℕ) (st now : State) → now ≡ with_requests script n st → now.ticks ≡ st.ticks

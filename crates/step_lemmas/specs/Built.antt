@@ -1,5 +1,5 @@
--- What the kernel does so far: the calls on tasks, semaphores, event flags and mutexes, of time and of contexts, in scripts
--- without devices.
+-- What the kernel does so far: the calls of all families but those on devices and those of a debugger, in scripts without
+-- devices.
 use Rattle.std.specs.Prelude.{ℕ, ◌≡◌, Bool, true, false, List, [], ◌∷◌, None, replicate}
 use Rattle.tk_types.specs.declared.calls.Call.{Call}
 use Rattle.tk_types.specs.declared.calls.Call.TheVariants as calls
@@ -9,14 +9,10 @@ use Rattle.tk_types.specs.declared.script.Script.{Script}
 use Rattle.kernel_model.specs.Bodies.Statements.{IsRunnable, fetch}
 use Rattle.device_model.specs.declared.rows.Wish.TheVariants.{Nothing}
 use Rattle.device_model.specs.Devices.Tables.{Devices}
-use Rattle.object_model.specs.Mails.Tables.{mails_start}
-use Rattle.object_model.specs.Pools.Tables.{pools_start}
 use Rattle.context_model.specs.Hooks.Tables.{hooks_start}
 use Rattle.machine_model.specs.States.State.{State}
 
 abbrev pub is_built : Call → Bool
-is_built (calls.Mail call) = false
-is_built (calls.Pool call) = false
 is_built (calls.Device call) = false
 is_built (calls.Hook call) = false
 is_built _ = true
@@ -41,9 +37,7 @@ no_devices = record {
   wishes = replicate 256 Nothing;
 }
 
--- no object is there of the kinds that aren't built, and no hook is set
+-- there is no device, and no hook is set
 pub record HasNone (st : State) : Type 0 where
-  pub mails : st.objects.mails ≡ mails_start
-  pub pools : st.objects.pools ≡ pools_start
   pub devices : st.objects.devices ≡ no_devices
   pub hooks : st.hooks ≡ hooks_start

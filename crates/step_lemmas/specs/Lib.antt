@@ -1,4 +1,5 @@
 pub mod Built
+pub mod Sound
 pub mod Kinds
 pub mod Freeing
 pub mod Falling

@@ -102,6 +102,65 @@ budget_of_one_step_run : text_of_lines (lines_of (trace budget_of_one_step_scrip
 unfolding budget_of_one_step_script budget_of_one_step_entries budget_of_one_step_lines text_of form_of named made task_call_name sem_flag_call_name mutex_call_name mail_call_name pool_call_name time_call_name context_call_name device_call_name hook_call_name name_of code_of error_text coded error_named attributes_of flag_mode_of open_mode_of suspend_mode_of is_name_byte name_at_most why_text value_text words_of text_of_line text_of_lines fetch give call_before create_sem create_flag end_first delete_sem delete_flag refer_sem refer_flag signal_sem set_flag clear_flag wait_sem wait_flag sem_flag_call serve_sem serve_flag first_served serve_sem_flag sem_trial flag_trial chosen free_task create_task delete_task start_task exit_task terminate_task change_priority rotate_ready get_task refer_task sleep delay wake_up cancel_wakeups release_wait suspend_task resume_task task_call mark_of allowed free_from first_serving serve_box serve_mailboxes serve_buffer serve_buffers post create_box delete_box send_box receive_box refer_box create_buffer delete_buffer send_buffer receive_buffer refer_buffer mail_call create_mutex lock_mutex unlock_mutex refer_mutex delete_mutex mutex_call change_priority_beside task_call_beside chain_has current_of resettle free_last ceiling_allows serve_mutex serve_mutexes create_fixed delete_fixed get_fixed release_fixed refer_fixed create_variable delete_variable get_variable release_variable refer_variable pool_call first_free serve_fixed serve_fixed_pools serve_variable serve_variable_pools set_time get_time get_operating_time create_cyclic start_cyclic stop_cyclic delete_cyclic refer_cyclic create_alarm start_alarm stop_alarm delete_alarm refer_alarm time_call body_of next_due again define_handler disable_dispatch enable_dispatch disable_interrupts enable_interrupts refer_system define_service refer_service enter_service context_call left list_existing list_ready list_queue set_hook hook_call open_device refer_device request request_whole wait_ending close_device suspend_devices device_call expected arrive hand_over hand_first messages emptied read_bytes write_bytes accept picked serve_acceptance serve_acceptances serve_ending serve_endings is_with_driver serve_close serve_closes serve_suspension events_sent free_descriptor free_request first_queued at_driver accepted dropped handed asked devices_start block is_last blocks unit cut may_cut arrived entered returned body_returned family_call answered called follow_release follow_each with_releases dispatched followed insert_once with_requests handler_begun due_begun interrupt_begun served_within settle freed_within fallen due_done tick state_after worked counted step sync_runs sync_run entered_2 runs start trace acted ran turn_of done_turn first_serving_2 serve_object state_start digits
 budget_of_one_step_run = refl
 
+-- Registers and memory count modulo their sizes; jumps compare signed numbers; halt ends the run.
+computing_script : Script
+computing_script = record {
+  devices = [];
+  pace = None;
+  irqs = [];
+  boot = record { body = 1; priority = 10 };
+  bodies =
+      record {
+        name = codes "main";
+        kind = kinds.Task;
+        labels = record { name = codes "loop"; place = 16 } ∷ record { name = codes "out"; place = 19 } ∷ record { name = codes "wrong"; place = 21 } ∷ record { name = codes "right"; place = 22 } ∷ [];
+        stmts =
+            stmts.Compute operations.Set 0 (operands.Number (pos 2147483647)) ∷
+            stmts.Compute operations.Add 0 (operands.Number (pos 1)) ∷
+            stmts.Show (operands.Register 0) ∷
+            stmts.Compute operations.Sub 0 (operands.Number (pos 1)) ∷
+            stmts.Show (operands.Register 0) ∷
+            stmts.Compute operations.Set 2 (operands.Number (negsuc 0)) ∷
+            stmts.Compute operations.Mul 2 (operands.Number (negsuc 0)) ∷
+            stmts.Show (operands.Register 2) ∷
+            stmts.Compute operations.Set 3 (operands.Number (pos 5)) ∷
+            stmts.Compute operations.Xor 3 (operands.Number (pos 6)) ∷
+            stmts.Compute operations.Or 3 (operands.Number (pos 8)) ∷
+            stmts.Compute operations.And 3 (operands.Number (pos 9)) ∷
+            stmts.Show (operands.Register 3) ∷
+            stmts.Store (operands.Number (pos 65537)) (operands.Number (pos 513)) ∷
+            stmts.Load 4 (operands.Number (pos 1)) ∷
+            stmts.Show (operands.Register 4) ∷
+            stmts.Compute operations.Sub 3 (operands.Number (pos 1)) ∷
+            stmts.Jump (conditions.Less 3 (operands.Number (pos 7))) 1 ∷
+            stmts.Jump conditions.Always 0 ∷
+            stmts.Jump (conditions.NotEqual 3 (operands.Number (pos 6))) 2 ∷
+            stmts.Jump (conditions.Equal 3 (operands.Register 3)) 3 ∷
+            stmts.Say (codes "wrong") ∷
+            stmts.Halt ∷
+            [];
+      } ∷
+      [];
+}
+
+computing_entries : List Entry
+computing_entries = []
+
+computing_lines : List ℕ
+computing_lines =
+    codes "0 D 1\n" ++
+    codes "3 S 1 -2147483648\n" ++
+    codes "5 S 1 2147483647\n" ++
+    codes "8 S 1 1\n" ++
+    codes "13 S 1 9\n" ++
+    codes "16 S 1 1\n" ++
+    codes "27 END halt\n" ++
+    []
+
+computing_run : text_of_lines (lines_of (trace computing_script modes.Free 100000 computing_entries)) ≡ computing_lines
+unfolding computing_script computing_entries computing_lines text_of form_of named made task_call_name sem_flag_call_name mutex_call_name mail_call_name pool_call_name time_call_name context_call_name device_call_name hook_call_name name_of code_of error_text coded error_named attributes_of flag_mode_of open_mode_of suspend_mode_of is_name_byte name_at_most why_text value_text words_of text_of_line text_of_lines fetch give call_before create_sem create_flag end_first delete_sem delete_flag refer_sem refer_flag signal_sem set_flag clear_flag wait_sem wait_flag sem_flag_call serve_sem serve_flag first_served serve_sem_flag sem_trial flag_trial chosen free_task create_task delete_task start_task exit_task terminate_task change_priority rotate_ready get_task refer_task sleep delay wake_up cancel_wakeups release_wait suspend_task resume_task task_call mark_of allowed free_from first_serving serve_box serve_mailboxes serve_buffer serve_buffers post create_box delete_box send_box receive_box refer_box create_buffer delete_buffer send_buffer receive_buffer refer_buffer mail_call create_mutex lock_mutex unlock_mutex refer_mutex delete_mutex mutex_call change_priority_beside task_call_beside chain_has current_of resettle free_last ceiling_allows serve_mutex serve_mutexes create_fixed delete_fixed get_fixed release_fixed refer_fixed create_variable delete_variable get_variable release_variable refer_variable pool_call first_free serve_fixed serve_fixed_pools serve_variable serve_variable_pools set_time get_time get_operating_time create_cyclic start_cyclic stop_cyclic delete_cyclic refer_cyclic create_alarm start_alarm stop_alarm delete_alarm refer_alarm time_call body_of next_due again define_handler disable_dispatch enable_dispatch disable_interrupts enable_interrupts refer_system define_service refer_service enter_service context_call left list_existing list_ready list_queue set_hook hook_call open_device refer_device request request_whole wait_ending close_device suspend_devices device_call expected arrive hand_over hand_first messages emptied read_bytes write_bytes accept picked serve_acceptance serve_acceptances serve_ending serve_endings is_with_driver serve_close serve_closes serve_suspension events_sent free_descriptor free_request first_queued at_driver accepted dropped handed asked devices_start block is_last blocks unit cut may_cut arrived entered returned body_returned family_call answered called follow_release follow_each with_releases dispatched followed insert_once with_requests handler_begun due_begun interrupt_begun served_within settle freed_within fallen due_done tick state_after worked counted step sync_runs sync_run entered_2 runs start trace acted ran turn_of done_turn first_serving_2 serve_object state_start digits
+computing_run = refl
+
 -- Wake-ups of a task that doesn't sleep are counted, taken by a sleep, and cleared.
 counted_requests_script : Script
 counted_requests_script = record {
@@ -209,6 +268,38 @@ delays_lines =
 delays_run : text_of_lines (lines_of (trace delays_script modes.Free 100000 delays_entries)) ≡ delays_lines
 unfolding delays_script delays_entries delays_lines text_of form_of named made task_call_name sem_flag_call_name mutex_call_name mail_call_name pool_call_name time_call_name context_call_name device_call_name hook_call_name name_of code_of error_text coded error_named attributes_of flag_mode_of open_mode_of suspend_mode_of is_name_byte name_at_most why_text value_text words_of text_of_line text_of_lines fetch give call_before create_sem create_flag end_first delete_sem delete_flag refer_sem refer_flag signal_sem set_flag clear_flag wait_sem wait_flag sem_flag_call serve_sem serve_flag first_served serve_sem_flag sem_trial flag_trial chosen free_task create_task delete_task start_task exit_task terminate_task change_priority rotate_ready get_task refer_task sleep delay wake_up cancel_wakeups release_wait suspend_task resume_task task_call mark_of allowed free_from first_serving serve_box serve_mailboxes serve_buffer serve_buffers post create_box delete_box send_box receive_box refer_box create_buffer delete_buffer send_buffer receive_buffer refer_buffer mail_call create_mutex lock_mutex unlock_mutex refer_mutex delete_mutex mutex_call change_priority_beside task_call_beside chain_has current_of resettle free_last ceiling_allows serve_mutex serve_mutexes create_fixed delete_fixed get_fixed release_fixed refer_fixed create_variable delete_variable get_variable release_variable refer_variable pool_call first_free serve_fixed serve_fixed_pools serve_variable serve_variable_pools set_time get_time get_operating_time create_cyclic start_cyclic stop_cyclic delete_cyclic refer_cyclic create_alarm start_alarm stop_alarm delete_alarm refer_alarm time_call body_of next_due again define_handler disable_dispatch enable_dispatch disable_interrupts enable_interrupts refer_system define_service refer_service enter_service context_call left list_existing list_ready list_queue set_hook hook_call open_device refer_device request request_whole wait_ending close_device suspend_devices device_call expected arrive hand_over hand_first messages emptied read_bytes write_bytes accept picked serve_acceptance serve_acceptances serve_ending serve_endings is_with_driver serve_close serve_closes serve_suspension events_sent free_descriptor free_request first_queued at_driver accepted dropped handed asked devices_start block is_last blocks unit cut may_cut arrived entered returned body_returned family_call answered called follow_release follow_each with_releases dispatched followed insert_once with_requests handler_begun due_begun interrupt_begun served_within settle freed_within fallen due_done tick state_after worked counted step sync_runs sync_run entered_2 runs start trace acted ran turn_of done_turn first_serving_2 serve_object state_start digits
 delays_run = refl
+
+-- A loop without an end is cut off by its budget.
+endless_loop_script : Script
+endless_loop_script = record {
+  devices = [];
+  pace = None;
+  irqs = [];
+  boot = record { body = 1; priority = 10 };
+  bodies =
+      record {
+        name = codes "main";
+        kind = kinds.Task;
+        labels = record { name = codes "a"; place = 0 } ∷ [];
+        stmts =
+            stmts.Jump conditions.Always 0 ∷
+            [];
+      } ∷
+      [];
+}
+
+endless_loop_entries : List Entry
+endless_loop_entries = []
+
+endless_loop_lines : List ℕ
+endless_loop_lines =
+    codes "0 D 1\n" ++
+    codes "1000 END budget\n" ++
+    []
+
+endless_loop_run : text_of_lines (lines_of (trace endless_loop_script modes.Free 1000 endless_loop_entries)) ≡ endless_loop_lines
+unfolding endless_loop_script endless_loop_entries endless_loop_lines text_of form_of named made task_call_name sem_flag_call_name mutex_call_name mail_call_name pool_call_name time_call_name context_call_name device_call_name hook_call_name name_of code_of error_text coded error_named attributes_of flag_mode_of open_mode_of suspend_mode_of is_name_byte name_at_most why_text value_text words_of text_of_line text_of_lines fetch give call_before create_sem create_flag end_first delete_sem delete_flag refer_sem refer_flag signal_sem set_flag clear_flag wait_sem wait_flag sem_flag_call serve_sem serve_flag first_served serve_sem_flag sem_trial flag_trial chosen free_task create_task delete_task start_task exit_task terminate_task change_priority rotate_ready get_task refer_task sleep delay wake_up cancel_wakeups release_wait suspend_task resume_task task_call mark_of allowed free_from first_serving serve_box serve_mailboxes serve_buffer serve_buffers post create_box delete_box send_box receive_box refer_box create_buffer delete_buffer send_buffer receive_buffer refer_buffer mail_call create_mutex lock_mutex unlock_mutex refer_mutex delete_mutex mutex_call change_priority_beside task_call_beside chain_has current_of resettle free_last ceiling_allows serve_mutex serve_mutexes create_fixed delete_fixed get_fixed release_fixed refer_fixed create_variable delete_variable get_variable release_variable refer_variable pool_call first_free serve_fixed serve_fixed_pools serve_variable serve_variable_pools set_time get_time get_operating_time create_cyclic start_cyclic stop_cyclic delete_cyclic refer_cyclic create_alarm start_alarm stop_alarm delete_alarm refer_alarm time_call body_of next_due again define_handler disable_dispatch enable_dispatch disable_interrupts enable_interrupts refer_system define_service refer_service enter_service context_call left list_existing list_ready list_queue set_hook hook_call open_device refer_device request request_whole wait_ending close_device suspend_devices device_call expected arrive hand_over hand_first messages emptied read_bytes write_bytes accept picked serve_acceptance serve_acceptances serve_ending serve_endings is_with_driver serve_close serve_closes serve_suspension events_sent free_descriptor free_request first_queued at_driver accepted dropped handed asked devices_start block is_last blocks unit cut may_cut arrived entered returned body_returned family_call answered called follow_release follow_each with_releases dispatched followed insert_once with_requests handler_begun due_begun interrupt_begun served_within settle freed_within fallen due_done tick state_after worked counted step sync_runs sync_run entered_2 runs start trace acted ran turn_of done_turn first_serving_2 serve_object state_start digits
+endless_loop_run = refl
 
 -- One task says hello and ends.
 hello_script : Script
@@ -319,6 +410,236 @@ preemption_run : text_of_lines (lines_of (trace preemption_script modes.Free 100
 unfolding preemption_script preemption_entries preemption_lines text_of form_of named made task_call_name sem_flag_call_name mutex_call_name mail_call_name pool_call_name time_call_name context_call_name device_call_name hook_call_name name_of code_of error_text coded error_named attributes_of flag_mode_of open_mode_of suspend_mode_of is_name_byte name_at_most why_text value_text words_of text_of_line text_of_lines fetch give call_before create_sem create_flag end_first delete_sem delete_flag refer_sem refer_flag signal_sem set_flag clear_flag wait_sem wait_flag sem_flag_call serve_sem serve_flag first_served serve_sem_flag sem_trial flag_trial chosen free_task create_task delete_task start_task exit_task terminate_task change_priority rotate_ready get_task refer_task sleep delay wake_up cancel_wakeups release_wait suspend_task resume_task task_call mark_of allowed free_from first_serving serve_box serve_mailboxes serve_buffer serve_buffers post create_box delete_box send_box receive_box refer_box create_buffer delete_buffer send_buffer receive_buffer refer_buffer mail_call create_mutex lock_mutex unlock_mutex refer_mutex delete_mutex mutex_call change_priority_beside task_call_beside chain_has current_of resettle free_last ceiling_allows serve_mutex serve_mutexes create_fixed delete_fixed get_fixed release_fixed refer_fixed create_variable delete_variable get_variable release_variable refer_variable pool_call first_free serve_fixed serve_fixed_pools serve_variable serve_variable_pools set_time get_time get_operating_time create_cyclic start_cyclic stop_cyclic delete_cyclic refer_cyclic create_alarm start_alarm stop_alarm delete_alarm refer_alarm time_call body_of next_due again define_handler disable_dispatch enable_dispatch disable_interrupts enable_interrupts refer_system define_service refer_service enter_service context_call left list_existing list_ready list_queue set_hook hook_call open_device refer_device request request_whole wait_ending close_device suspend_devices device_call expected arrive hand_over hand_first messages emptied read_bytes write_bytes accept picked serve_acceptance serve_acceptances serve_ending serve_endings is_with_driver serve_close serve_closes serve_suspension events_sent free_descriptor free_request first_queued at_driver accepted dropped handed asked devices_start block is_last blocks unit cut may_cut arrived entered returned body_returned family_call answered called follow_release follow_each with_releases dispatched followed insert_once with_requests handler_begun due_begun interrupt_begun served_within settle freed_within fallen due_done tick state_after worked counted step sync_runs sync_run entered_2 runs start trace acted ran turn_of done_turn first_serving_2 serve_object state_start digits
 preemption_run = refl
 
+-- Priorities of ready and DORMANT tasks change; tasks are terminated, deleted and end themselves.
+priorities_script : Script
+priorities_script = record {
+  devices = [];
+  pace = None;
+  irqs = [];
+  boot = record { body = 1; priority = 10 };
+  bodies =
+      record {
+        name = codes "main";
+        kind = kinds.Task;
+        labels = [];
+        stmts =
+            stmts.Call names.TkCreTsk (args.List 0 ∷ args.Body 2 ∷ args.Number (pos 10) ∷ args.Number (pos 512) ∷ []) ∷
+            stmts.Call names.TkStaTsk (args.Number (pos 2) ∷ args.Number (pos 5) ∷ []) ∷
+            stmts.Call names.TkChgPri (args.Number (pos 2) ∷ args.Number (pos 9) ∷ []) ∷
+            stmts.Say (codes "back") ∷
+            stmts.Call names.TkRefTsk (args.Number (pos 2) ∷ []) ∷
+            stmts.Call names.TkTerTsk (args.Number (pos 2) ∷ []) ∷
+            stmts.Call names.TkRefTsk (args.Number (pos 2) ∷ []) ∷
+            stmts.Call names.TkChgPri (args.Number (pos 2) ∷ args.Number (pos 7) ∷ []) ∷
+            stmts.Call names.TkRefTsk (args.Number (pos 2) ∷ []) ∷
+            stmts.Call names.TkDelTsk (args.Number (pos 2) ∷ []) ∷
+            stmts.Call names.TkRefTsk (args.Number (pos 2) ∷ []) ∷
+            stmts.Call names.TkChgPri (args.Number (pos 0) ∷ args.Number (pos 0) ∷ []) ∷
+            stmts.Call names.TkGetTid ([]) ∷
+            stmts.Call names.TkExdTsk ([]) ∷
+            [];
+      } ∷
+      record {
+        name = codes "other";
+        kind = kinds.Task;
+        labels = [];
+        stmts =
+            stmts.Show (operands.Register 1) ∷
+            stmts.Call names.TkChgPri (args.Number (pos 0) ∷ args.Number (pos 11) ∷ []) ∷
+            stmts.Say (codes "low") ∷
+            stmts.Call names.TkExdTsk ([]) ∷
+            [];
+      } ∷
+      [];
+}
+
+priorities_entries : List Entry
+priorities_entries = []
+
+priorities_lines : List ℕ
+priorities_lines =
+    codes "0 D 1\n" ++
+    codes "1 C 1 tk_cre_tsk 2\n" ++
+    codes "2 C 1 tk_sta_tsk 0\n" ++
+    codes "3 C 1 tk_chg_pri 0\n" ++
+    codes "3 D 2\n" ++
+    codes "4 S 2 5\n" ++
+    codes "5 C 2 tk_chg_pri 0\n" ++
+    codes "5 D 1\n" ++
+    codes "6 S 1 back\n" ++
+    codes "7 C 1 tk_ref_tsk 0 2 11 11 0 0\n" ++
+    codes "8 C 1 tk_ter_tsk 0\n" ++
+    codes "9 C 1 tk_ref_tsk 0 6 10 10 0 0\n" ++
+    codes "10 C 1 tk_chg_pri 0\n" ++
+    codes "11 C 1 tk_ref_tsk 0 6 7 7 0 0\n" ++
+    codes "12 C 1 tk_del_tsk 0\n" ++
+    codes "13 C 1 tk_ref_tsk E_NOEXS\n" ++
+    codes "14 C 1 tk_chg_pri 0\n" ++
+    codes "15 C 1 tk_get_tid 1\n" ++
+    codes "16 C 1 tk_exd_tsk 0\n" ++
+    codes "16 D 0\n" ++
+    codes "16 END idle\n" ++
+    []
+
+priorities_run : text_of_lines (lines_of (trace priorities_script modes.Free 100000 priorities_entries)) ≡ priorities_lines
+unfolding priorities_script priorities_entries priorities_lines text_of form_of named made task_call_name sem_flag_call_name mutex_call_name mail_call_name pool_call_name time_call_name context_call_name device_call_name hook_call_name name_of code_of error_text coded error_named attributes_of flag_mode_of open_mode_of suspend_mode_of is_name_byte name_at_most why_text value_text words_of text_of_line text_of_lines fetch give call_before create_sem create_flag end_first delete_sem delete_flag refer_sem refer_flag signal_sem set_flag clear_flag wait_sem wait_flag sem_flag_call serve_sem serve_flag first_served serve_sem_flag sem_trial flag_trial chosen free_task create_task delete_task start_task exit_task terminate_task change_priority rotate_ready get_task refer_task sleep delay wake_up cancel_wakeups release_wait suspend_task resume_task task_call mark_of allowed free_from first_serving serve_box serve_mailboxes serve_buffer serve_buffers post create_box delete_box send_box receive_box refer_box create_buffer delete_buffer send_buffer receive_buffer refer_buffer mail_call create_mutex lock_mutex unlock_mutex refer_mutex delete_mutex mutex_call change_priority_beside task_call_beside chain_has current_of resettle free_last ceiling_allows serve_mutex serve_mutexes create_fixed delete_fixed get_fixed release_fixed refer_fixed create_variable delete_variable get_variable release_variable refer_variable pool_call first_free serve_fixed serve_fixed_pools serve_variable serve_variable_pools set_time get_time get_operating_time create_cyclic start_cyclic stop_cyclic delete_cyclic refer_cyclic create_alarm start_alarm stop_alarm delete_alarm refer_alarm time_call body_of next_due again define_handler disable_dispatch enable_dispatch disable_interrupts enable_interrupts refer_system define_service refer_service enter_service context_call left list_existing list_ready list_queue set_hook hook_call open_device refer_device request request_whole wait_ending close_device suspend_devices device_call expected arrive hand_over hand_first messages emptied read_bytes write_bytes accept picked serve_acceptance serve_acceptances serve_ending serve_endings is_with_driver serve_close serve_closes serve_suspension events_sent free_descriptor free_request first_queued at_driver accepted dropped handed asked devices_start block is_last blocks unit cut may_cut arrived entered returned body_returned family_call answered called follow_release follow_each with_releases dispatched followed insert_once with_requests handler_begun due_begun interrupt_begun served_within settle freed_within fallen due_done tick state_after worked counted step sync_runs sync_run entered_2 runs start trace acted ran turn_of done_turn first_serving_2 serve_object state_start digits
+priorities_run = refl
+
+-- Calls are refused by the first check that fails.
+refused_calls_script : Script
+refused_calls_script = record {
+  devices = [];
+  pace = None;
+  irqs = [];
+  boot = record { body = 1; priority = 10 };
+  bodies =
+      record {
+        name = codes "main";
+        kind = kinds.Task;
+        labels = [];
+        stmts =
+            stmts.Call names.TkCreTsk (args.List 0 ∷ args.Body 2 ∷ args.Number (pos 0) ∷ args.Number (pos 512) ∷ []) ∷
+            stmts.Call names.TkCreTsk (args.List 0 ∷ args.Body 2 ∷ args.Number (pos 141) ∷ args.Number (pos 512) ∷ []) ∷
+            stmts.Call names.TkCreTsk (args.List 0 ∷ args.Body 2 ∷ args.Number (pos 10) ∷ args.Number (pos 0) ∷ []) ∷
+            stmts.Call names.TkCreTsk (args.List 0 ∷ args.Body 2 ∷ args.Number (pos 10) ∷ args.Number (pos 1048577) ∷ []) ∷
+            stmts.Call names.TkCreTsk (args.List 0 ∷ args.Body 2 ∷ args.Number (pos 10) ∷ args.Number (pos 1047553) ∷ []) ∷
+            stmts.Call names.TkStaTsk (args.Number (pos 0) ∷ args.Number (pos 0) ∷ []) ∷
+            stmts.Call names.TkStaTsk (args.Number (pos 256) ∷ args.Number (pos 0) ∷ []) ∷
+            stmts.Call names.TkStaTsk (args.Number (pos 2) ∷ args.Number (negsuc 0) ∷ []) ∷
+            stmts.Call names.TkStaTsk (args.Number (pos 2) ∷ args.Number (pos 0) ∷ []) ∷
+            stmts.Call names.TkStaTsk (args.Number (pos 1) ∷ args.Number (pos 0) ∷ []) ∷
+            stmts.Call names.TkWupTsk (args.Number (negsuc 4) ∷ []) ∷
+            stmts.Call names.TkWupTsk (args.Number (pos 2) ∷ []) ∷
+            stmts.Call names.TkWupTsk (args.Number (pos 1) ∷ []) ∷
+            stmts.Call names.TkCreTsk (args.List 0 ∷ args.Body 2 ∷ args.Number (pos 20) ∷ args.Number (pos 1047552) ∷ []) ∷
+            stmts.Call names.TkWupTsk (args.Number (pos 2) ∷ []) ∷
+            stmts.Call names.TkStaTsk (args.Number (pos 2) ∷ args.Number (pos 7) ∷ []) ∷
+            stmts.Call names.TkWupTsk (args.Number (pos 2) ∷ []) ∷
+            stmts.Call names.TkCreTsk (args.List 0 ∷ args.Body 2 ∷ args.Number (pos 20) ∷ args.Number (pos 1) ∷ []) ∷
+            [];
+      } ∷
+      record {
+        name = codes "work";
+        kind = kinds.Task;
+        labels = [];
+        stmts =
+            stmts.Call names.TkSlpTsk (args.Number (negsuc 0) ∷ []) ∷
+            [];
+      } ∷
+      [];
+}
+
+refused_calls_entries : List Entry
+refused_calls_entries = []
+
+refused_calls_lines : List ℕ
+refused_calls_lines =
+    codes "0 D 1\n" ++
+    codes "1 C 1 tk_cre_tsk E_PAR\n" ++
+    codes "2 C 1 tk_cre_tsk E_PAR\n" ++
+    codes "3 C 1 tk_cre_tsk E_PAR\n" ++
+    codes "4 C 1 tk_cre_tsk E_PAR\n" ++
+    codes "5 C 1 tk_cre_tsk E_NOMEM\n" ++
+    codes "6 C 1 tk_sta_tsk E_ID\n" ++
+    codes "7 C 1 tk_sta_tsk E_ID\n" ++
+    codes "8 C 1 tk_sta_tsk E_PAR\n" ++
+    codes "9 C 1 tk_sta_tsk E_NOEXS\n" ++
+    codes "10 C 1 tk_sta_tsk E_OBJ\n" ++
+    codes "11 C 1 tk_wup_tsk E_ID\n" ++
+    codes "12 C 1 tk_wup_tsk E_NOEXS\n" ++
+    codes "13 C 1 tk_wup_tsk E_OBJ\n" ++
+    codes "14 C 1 tk_cre_tsk 2\n" ++
+    codes "15 C 1 tk_wup_tsk E_OBJ\n" ++
+    codes "16 C 1 tk_sta_tsk 0\n" ++
+    codes "17 C 1 tk_wup_tsk 0\n" ++
+    codes "18 C 1 tk_cre_tsk E_NOMEM\n" ++
+    codes "19 C 1 tk_ext_tsk 0\n" ++
+    codes "19 D 2\n" ++
+    codes "20 C 2 tk_slp_tsk 0\n" ++
+    codes "21 C 2 tk_ext_tsk 0\n" ++
+    codes "21 D 0\n" ++
+    codes "21 END idle\n" ++
+    []
+
+refused_calls_run : text_of_lines (lines_of (trace refused_calls_script modes.Free 100000 refused_calls_entries)) ≡ refused_calls_lines
+unfolding refused_calls_script refused_calls_entries refused_calls_lines text_of form_of named made task_call_name sem_flag_call_name mutex_call_name mail_call_name pool_call_name time_call_name context_call_name device_call_name hook_call_name name_of code_of error_text coded error_named attributes_of flag_mode_of open_mode_of suspend_mode_of is_name_byte name_at_most why_text value_text words_of text_of_line text_of_lines fetch give call_before create_sem create_flag end_first delete_sem delete_flag refer_sem refer_flag signal_sem set_flag clear_flag wait_sem wait_flag sem_flag_call serve_sem serve_flag first_served serve_sem_flag sem_trial flag_trial chosen free_task create_task delete_task start_task exit_task terminate_task change_priority rotate_ready get_task refer_task sleep delay wake_up cancel_wakeups release_wait suspend_task resume_task task_call mark_of allowed free_from first_serving serve_box serve_mailboxes serve_buffer serve_buffers post create_box delete_box send_box receive_box refer_box create_buffer delete_buffer send_buffer receive_buffer refer_buffer mail_call create_mutex lock_mutex unlock_mutex refer_mutex delete_mutex mutex_call change_priority_beside task_call_beside chain_has current_of resettle free_last ceiling_allows serve_mutex serve_mutexes create_fixed delete_fixed get_fixed release_fixed refer_fixed create_variable delete_variable get_variable release_variable refer_variable pool_call first_free serve_fixed serve_fixed_pools serve_variable serve_variable_pools set_time get_time get_operating_time create_cyclic start_cyclic stop_cyclic delete_cyclic refer_cyclic create_alarm start_alarm stop_alarm delete_alarm refer_alarm time_call body_of next_due again define_handler disable_dispatch enable_dispatch disable_interrupts enable_interrupts refer_system define_service refer_service enter_service context_call left list_existing list_ready list_queue set_hook hook_call open_device refer_device request request_whole wait_ending close_device suspend_devices device_call expected arrive hand_over hand_first messages emptied read_bytes write_bytes accept picked serve_acceptance serve_acceptances serve_ending serve_endings is_with_driver serve_close serve_closes serve_suspension events_sent free_descriptor free_request first_queued at_driver accepted dropped handed asked devices_start block is_last blocks unit cut may_cut arrived entered returned body_returned family_call answered called follow_release follow_each with_releases dispatched followed insert_once with_requests handler_begun due_begun interrupt_begun served_within settle freed_within fallen due_done tick state_after worked counted step sync_runs sync_run entered_2 runs start trace acted ran turn_of done_turn first_serving_2 serve_object state_start digits
+refused_calls_run = refl
+
+-- Rotation gives the other tasks of a priority their turn; a released delay answers the release.
+rotation_and_release_script : Script
+rotation_and_release_script = record {
+  devices = [];
+  pace = None;
+  irqs = [];
+  boot = record { body = 1; priority = 10 };
+  bodies =
+      record {
+        name = codes "main";
+        kind = kinds.Task;
+        labels = [];
+        stmts =
+            stmts.Call names.TkCreTsk (args.List 0 ∷ args.Body 2 ∷ args.Number (pos 10) ∷ args.Number (pos 512) ∷ []) ∷
+            stmts.Call names.TkCreTsk (args.List 0 ∷ args.Body 2 ∷ args.Number (pos 10) ∷ args.Number (pos 512) ∷ []) ∷
+            stmts.Call names.TkStaTsk (args.Number (pos 2) ∷ args.Number (pos 0) ∷ []) ∷
+            stmts.Call names.TkStaTsk (args.Number (pos 3) ∷ args.Number (pos 0) ∷ []) ∷
+            stmts.Call names.TkRotRdq (args.Number (pos 0) ∷ []) ∷
+            stmts.Say (codes "main") ∷
+            stmts.Call names.TkRelWai (args.Number (pos 2) ∷ []) ∷
+            stmts.Call names.TkRelWai (args.Number (pos 2) ∷ []) ∷
+            stmts.Call names.TkTerTsk (args.Number (pos 3) ∷ []) ∷
+            stmts.Call names.TkSusTsk (args.Number (pos 2) ∷ []) ∷
+            stmts.Call names.TkFrsmTsk (args.Number (pos 2) ∷ []) ∷
+            stmts.Call names.TkRsmTsk (args.Number (pos 2) ∷ []) ∷
+            [];
+      } ∷
+      record {
+        name = codes "work";
+        kind = kinds.Task;
+        labels = [];
+        stmts =
+            stmts.Call names.TkDlyTsk (args.Number (pos 5) ∷ []) ∷
+            stmts.Show (operands.Register 0) ∷
+            [];
+      } ∷
+      [];
+}
+
+rotation_and_release_entries : List Entry
+rotation_and_release_entries = []
+
+rotation_and_release_lines : List ℕ
+rotation_and_release_lines =
+    codes "0 D 1\n" ++
+    codes "1 C 1 tk_cre_tsk 2\n" ++
+    codes "2 C 1 tk_cre_tsk 3\n" ++
+    codes "3 C 1 tk_sta_tsk 0\n" ++
+    codes "4 C 1 tk_sta_tsk 0\n" ++
+    codes "5 C 1 tk_rot_rdq 0\n" ++
+    codes "5 D 2\n" ++
+    codes "6 B 2 tk_dly_tsk\n" ++
+    codes "6 D 3\n" ++
+    codes "7 B 3 tk_dly_tsk\n" ++
+    codes "7 D 1\n" ++
+    codes "8 S 1 main\n" ++
+    codes "9 C 1 tk_rel_wai 0\n" ++
+    codes "9 W 2 tk_dly_tsk E_RLWAI\n" ++
+    codes "10 C 1 tk_rel_wai E_OBJ\n" ++
+    codes "11 C 1 tk_ter_tsk 0\n" ++
+    codes "12 C 1 tk_sus_tsk 0\n" ++
+    codes "13 C 1 tk_frsm_tsk 0\n" ++
+    codes "14 C 1 tk_rsm_tsk E_OBJ\n" ++
+    codes "15 C 1 tk_ext_tsk 0\n" ++
+    codes "15 D 2\n" ++
+    codes "16 S 2 -49\n" ++
+    codes "17 C 2 tk_ext_tsk 0\n" ++
+    codes "17 D 0\n" ++
+    codes "17 END idle\n" ++
+    []
+
+rotation_and_release_run : text_of_lines (lines_of (trace rotation_and_release_script modes.Free 100000 rotation_and_release_entries)) ≡ rotation_and_release_lines
+unfolding rotation_and_release_script rotation_and_release_entries rotation_and_release_lines text_of form_of named made task_call_name sem_flag_call_name mutex_call_name mail_call_name pool_call_name time_call_name context_call_name device_call_name hook_call_name name_of code_of error_text coded error_named attributes_of flag_mode_of open_mode_of suspend_mode_of is_name_byte name_at_most why_text value_text words_of text_of_line text_of_lines fetch give call_before create_sem create_flag end_first delete_sem delete_flag refer_sem refer_flag signal_sem set_flag clear_flag wait_sem wait_flag sem_flag_call serve_sem serve_flag first_served serve_sem_flag sem_trial flag_trial chosen free_task create_task delete_task start_task exit_task terminate_task change_priority rotate_ready get_task refer_task sleep delay wake_up cancel_wakeups release_wait suspend_task resume_task task_call mark_of allowed free_from first_serving serve_box serve_mailboxes serve_buffer serve_buffers post create_box delete_box send_box receive_box refer_box create_buffer delete_buffer send_buffer receive_buffer refer_buffer mail_call create_mutex lock_mutex unlock_mutex refer_mutex delete_mutex mutex_call change_priority_beside task_call_beside chain_has current_of resettle free_last ceiling_allows serve_mutex serve_mutexes create_fixed delete_fixed get_fixed release_fixed refer_fixed create_variable delete_variable get_variable release_variable refer_variable pool_call first_free serve_fixed serve_fixed_pools serve_variable serve_variable_pools set_time get_time get_operating_time create_cyclic start_cyclic stop_cyclic delete_cyclic refer_cyclic create_alarm start_alarm stop_alarm delete_alarm refer_alarm time_call body_of next_due again define_handler disable_dispatch enable_dispatch disable_interrupts enable_interrupts refer_system define_service refer_service enter_service context_call left list_existing list_ready list_queue set_hook hook_call open_device refer_device request request_whole wait_ending close_device suspend_devices device_call expected arrive hand_over hand_first messages emptied read_bytes write_bytes accept picked serve_acceptance serve_acceptances serve_ending serve_endings is_with_driver serve_close serve_closes serve_suspension events_sent free_descriptor free_request first_queued at_driver accepted dropped handed asked devices_start block is_last blocks unit cut may_cut arrived entered returned body_returned family_call answered called follow_release follow_each with_releases dispatched followed insert_once with_requests handler_begun due_begun interrupt_begun served_within settle freed_within fallen due_done tick state_after worked counted step sync_runs sync_run entered_2 runs start trace acted ran turn_of done_turn first_serving_2 serve_object state_start digits
+rotation_and_release_run = refl
+
 -- A suspended sleeper is woken, goes on being suspended, and stands last once it is resumed.
 suspended_sleeper_script : Script
 suspended_sleeper_script = record {
@@ -399,6 +720,80 @@ suspended_sleeper_lines =
 suspended_sleeper_run : text_of_lines (lines_of (trace suspended_sleeper_script modes.Free 100000 suspended_sleeper_entries)) ≡ suspended_sleeper_lines
 unfolding suspended_sleeper_script suspended_sleeper_entries suspended_sleeper_lines text_of form_of named made task_call_name sem_flag_call_name mutex_call_name mail_call_name pool_call_name time_call_name context_call_name device_call_name hook_call_name name_of code_of error_text coded error_named attributes_of flag_mode_of open_mode_of suspend_mode_of is_name_byte name_at_most why_text value_text words_of text_of_line text_of_lines fetch give call_before create_sem create_flag end_first delete_sem delete_flag refer_sem refer_flag signal_sem set_flag clear_flag wait_sem wait_flag sem_flag_call serve_sem serve_flag first_served serve_sem_flag sem_trial flag_trial chosen free_task create_task delete_task start_task exit_task terminate_task change_priority rotate_ready get_task refer_task sleep delay wake_up cancel_wakeups release_wait suspend_task resume_task task_call mark_of allowed free_from first_serving serve_box serve_mailboxes serve_buffer serve_buffers post create_box delete_box send_box receive_box refer_box create_buffer delete_buffer send_buffer receive_buffer refer_buffer mail_call create_mutex lock_mutex unlock_mutex refer_mutex delete_mutex mutex_call change_priority_beside task_call_beside chain_has current_of resettle free_last ceiling_allows serve_mutex serve_mutexes create_fixed delete_fixed get_fixed release_fixed refer_fixed create_variable delete_variable get_variable release_variable refer_variable pool_call first_free serve_fixed serve_fixed_pools serve_variable serve_variable_pools set_time get_time get_operating_time create_cyclic start_cyclic stop_cyclic delete_cyclic refer_cyclic create_alarm start_alarm stop_alarm delete_alarm refer_alarm time_call body_of next_due again define_handler disable_dispatch enable_dispatch disable_interrupts enable_interrupts refer_system define_service refer_service enter_service context_call left list_existing list_ready list_queue set_hook hook_call open_device refer_device request request_whole wait_ending close_device suspend_devices device_call expected arrive hand_over hand_first messages emptied read_bytes write_bytes accept picked serve_acceptance serve_acceptances serve_ending serve_endings is_with_driver serve_close serve_closes serve_suspension events_sent free_descriptor free_request first_queued at_driver accepted dropped handed asked devices_start block is_last blocks unit cut may_cut arrived entered returned body_returned family_call answered called follow_release follow_each with_releases dispatched followed insert_once with_requests handler_begun due_begun interrupt_begun served_within settle freed_within fallen due_done tick state_after worked counted step sync_runs sync_run entered_2 runs start trace acted ran turn_of done_turn first_serving_2 serve_object state_start digits
 suspended_sleeper_run = refl
+
+-- Time-outs fall due in the tick that makes the time one more than their limit, and in one tick in the order of making.
+time_outs_script : Script
+time_outs_script = record {
+  devices = [];
+  pace = None;
+  irqs = [];
+  boot = record { body = 1; priority = 10 };
+  bodies =
+      record {
+        name = codes "main";
+        kind = kinds.Task;
+        labels = [];
+        stmts =
+            stmts.Call names.TkCreTsk (args.List 0 ∷ args.Body 2 ∷ args.Number (pos 5) ∷ args.Number (pos 512) ∷ []) ∷
+            stmts.Call names.TkCreTsk (args.List 0 ∷ args.Body 2 ∷ args.Number (pos 5) ∷ args.Number (pos 512) ∷ []) ∷
+            stmts.Call names.TkStaTsk (args.Number (pos 2) ∷ args.Number (pos 0) ∷ []) ∷
+            stmts.Call names.TkStaTsk (args.Number (pos 3) ∷ args.Number (pos 0) ∷ []) ∷
+            stmts.Call names.TkSlpTsk (args.Number (pos 0) ∷ []) ∷
+            stmts.Call names.TkDlyTsk (args.Number (pos 1) ∷ []) ∷
+            stmts.Say (codes "late") ∷
+            [];
+      } ∷
+      record {
+        name = codes "nap";
+        kind = kinds.Task;
+        labels = [];
+        stmts =
+            stmts.Call names.TkSlpTsk (args.Number (pos 2) ∷ []) ∷
+            [];
+      } ∷
+      [];
+}
+
+time_outs_entries : List Entry
+time_outs_entries = []
+
+time_outs_lines : List ℕ
+time_outs_lines =
+    codes "0 D 1\n" ++
+    codes "1 C 1 tk_cre_tsk 2\n" ++
+    codes "2 C 1 tk_cre_tsk 3\n" ++
+    codes "3 C 1 tk_sta_tsk 0\n" ++
+    codes "3 D 2\n" ++
+    codes "4 B 2 tk_slp_tsk\n" ++
+    codes "4 D 1\n" ++
+    codes "5 C 1 tk_sta_tsk 0\n" ++
+    codes "5 D 3\n" ++
+    codes "6 B 3 tk_slp_tsk\n" ++
+    codes "6 D 1\n" ++
+    codes "7 C 1 tk_slp_tsk E_TMOUT\n" ++
+    codes "8 B 1 tk_dly_tsk\n" ++
+    codes "8 D 0\n" ++
+    codes "9 K 1\n" ++
+    codes "10 K 2\n" ++
+    codes "10 W 1 tk_dly_tsk 0\n" ++
+    codes "10 D 1\n" ++
+    codes "11 S 1 late\n" ++
+    codes "12 C 1 tk_ext_tsk 0\n" ++
+    codes "12 D 0\n" ++
+    codes "13 K 3\n" ++
+    codes "13 W 2 tk_slp_tsk E_TMOUT\n" ++
+    codes "13 W 3 tk_slp_tsk E_TMOUT\n" ++
+    codes "13 D 2\n" ++
+    codes "14 C 2 tk_ext_tsk 0\n" ++
+    codes "14 D 3\n" ++
+    codes "15 C 3 tk_ext_tsk 0\n" ++
+    codes "15 D 0\n" ++
+    codes "15 END idle\n" ++
+    []
+
+time_outs_run : text_of_lines (lines_of (trace time_outs_script modes.Free 100000 time_outs_entries)) ≡ time_outs_lines
+unfolding time_outs_script time_outs_entries time_outs_lines text_of form_of named made task_call_name sem_flag_call_name mutex_call_name mail_call_name pool_call_name time_call_name context_call_name device_call_name hook_call_name name_of code_of error_text coded error_named attributes_of flag_mode_of open_mode_of suspend_mode_of is_name_byte name_at_most why_text value_text words_of text_of_line text_of_lines fetch give call_before create_sem create_flag end_first delete_sem delete_flag refer_sem refer_flag signal_sem set_flag clear_flag wait_sem wait_flag sem_flag_call serve_sem serve_flag first_served serve_sem_flag sem_trial flag_trial chosen free_task create_task delete_task start_task exit_task terminate_task change_priority rotate_ready get_task refer_task sleep delay wake_up cancel_wakeups release_wait suspend_task resume_task task_call mark_of allowed free_from first_serving serve_box serve_mailboxes serve_buffer serve_buffers post create_box delete_box send_box receive_box refer_box create_buffer delete_buffer send_buffer receive_buffer refer_buffer mail_call create_mutex lock_mutex unlock_mutex refer_mutex delete_mutex mutex_call change_priority_beside task_call_beside chain_has current_of resettle free_last ceiling_allows serve_mutex serve_mutexes create_fixed delete_fixed get_fixed release_fixed refer_fixed create_variable delete_variable get_variable release_variable refer_variable pool_call first_free serve_fixed serve_fixed_pools serve_variable serve_variable_pools set_time get_time get_operating_time create_cyclic start_cyclic stop_cyclic delete_cyclic refer_cyclic create_alarm start_alarm stop_alarm delete_alarm refer_alarm time_call body_of next_due again define_handler disable_dispatch enable_dispatch disable_interrupts enable_interrupts refer_system define_service refer_service enter_service context_call left list_existing list_ready list_queue set_hook hook_call open_device refer_device request request_whole wait_ending close_device suspend_devices device_call expected arrive hand_over hand_first messages emptied read_bytes write_bytes accept picked serve_acceptance serve_acceptances serve_ending serve_endings is_with_driver serve_close serve_closes serve_suspension events_sent free_descriptor free_request first_queued at_driver accepted dropped handed asked devices_start block is_last blocks unit cut may_cut arrived entered returned body_returned family_call answered called follow_release follow_each with_releases dispatched followed insert_once with_requests handler_begun due_begun interrupt_begun served_within settle freed_within fallen due_done tick state_after worked counted step sync_runs sync_run entered_2 runs start trace acted ran turn_of done_turn first_serving_2 serve_object state_start digits
+time_outs_run = refl
 
 -- A sleeper of a higher priority runs as soon as it is woken.
 wake_up_script : Script

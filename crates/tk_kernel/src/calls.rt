@@ -4,8 +4,8 @@ ghost use Rattle.std.specs.Prelude.{◌≡◌, ◌<◌, ◌^◌, ◌++◌, IfOk,
 ghost use Rattle.machine_model.specs.Events.Bodies.{service_value};
 ghost use Rattle.machine_model.specs.Events.Calls.{answered, call_lines, called, family_call};
 ghost use Rattle.machine_model.specs.States.State.{who_of};
-ghost use Rattle.machine_model.specs.States.Waits.{IsOrderly};
 ghost use Rattle.step_lemmas.specs.Built.{is_built};
+ghost use Rattle.step_lemmas.specs.Sound.{IsSound};
 
 use crate::kernel::Kernel;
 use kernel_base::answers::failed;
@@ -67,7 +67,7 @@ impl Kernel {
     fn family_call(&mut self, actor: u8, call: &Call) -> Result<Outcome, AllocError>
         requires few { self.old.base.made < 2 ^ 63 }
         requires early { self.old.base.time < 2 ^ 63 }
-        requires orderly { IsOrderly self.old.base self.old.objects }
+        requires sound { IsSound self.old.base self.old.objects }
         requires built { is_built call.now ≡ true }
         ensures { IfOk result (λ outcome. family_call self.old actor call.now ≡ record { state = self.new; outcome = outcome }) }
     {
@@ -78,6 +78,14 @@ impl Kernel {
                 Ok(sem_flag::call(&mut self.base, &mut self.sem_flags, who, call))
             }
             Call::Mutex(call) => Ok(mutex_prio::call(&mut self.base, &mut self.mutexes, who, call)),
+            Call::Mail(call) => mail_buffer::call(
+                &mut self.base,
+                &mut self.mails,
+                &mut self.memory,
+                who,
+                call,
+            ),
+            Call::Pool(call) => mem_pools::call(&mut self.base, &mut self.pools, who, call),
             Call::Time(call) => Ok(time_events::call(&mut self.base, &mut self.clocks, call)),
             Call::Context(call) => Ok(contexts::call(
                 &mut self.base,
@@ -118,7 +126,7 @@ impl Kernel {
     ) -> Result<(), AllocError>
         requires few { self.old.base.made < 2 ^ 63 }
         requires early { self.old.base.time < 2 ^ 63 }
-        requires orderly { IsOrderly self.old.base self.old.objects }
+        requires sound { IsSound self.old.base self.old.objects }
         requires built { is_built call.now ≡ true }
         ensures state { OnOk result (self.new ≡ (called mode step self.old actor call.now).state) }
         ensures lines { OnOk result (lines.new.items ≡ lines.old.items ++ (called mode step self.old actor call.now).lines) }

@@ -6,8 +6,8 @@ ghost use Rattle.std.specs.Option.{is_some};
 ghost use Rattle.object_model.specs.Mutexes.Tables.{free_last};
 ghost use Rattle.machine_model.specs.Events.Settle.{freed};
 ghost use Rattle.step_lemmas.specs.Freeing.{freed_by};
+ghost use Rattle.step_lemmas.specs.Sound.{IsSound};
 ghost use Rattle.machine_model.specs.States.State.{parts_of, with_parts};
-ghost use Rattle.machine_model.specs.States.Waits.{IsOrderly};
 
 use crate::kernel::Kernel;
 use tk_types::{Call, Mode, Outcome, TaskCall};
@@ -51,12 +51,12 @@ impl Kernel {
         mutex_prio::free_last(&self.base, &mut self.mutexes, task)
     }
 
-    /// The same; each task that waits still stands in its order.
+    /// The same; what waits still stands in its order and has asked for something that fits.
     fn free_one(&mut self, task: u8) -> bool
-        requires orderly { IsOrderly self.old.base self.old.objects }
+        requires sound { IsSound self.old.base self.old.objects }
         ensures freed { result ≡ is_some (free_last self.old.base self.old.objects.mutexes task) }
         ensures left { self.new ≡ freed_by task self.old }
-        ensures orderly { IsOrderly self.new.base self.new.objects }
+        ensures sound { IsSound self.new.base self.new.objects }
     {
         self.known_of_tasks();
         self.free_last(task)
@@ -64,7 +64,7 @@ impl Kernel {
 
     /// A task that ended frees its mutexes, the one locked last first, and all settles after each.
     fn free_all(&mut self, mode: Mode, task: u8)
-        requires orderly { IsOrderly self.old.base self.old.objects }
+        requires sound { IsSound self.old.base self.old.objects }
         ensures { self.new ≡ with_parts self.old (freed mode task (parts_of self.old)) }
     {
         'mutexes: for _freed in 0..MOST_MUTEXES {
@@ -77,7 +77,7 @@ impl Kernel {
 
     /// A task that ended leaves all its services, and frees its mutexes.
     fn drop_holdings(&mut self, mode: Mode, task: u8)
-        requires orderly { IsOrderly self.old.base self.old.objects }
+        requires sound { IsSound self.old.base self.old.objects }
         ensures { self.new ≡ without_holdings mode self.old task }
     {
         if task == 0 {
@@ -89,7 +89,7 @@ impl Kernel {
 
     /// What a task leaves that a call has ended.
     pub(crate) fn end_holdings(&mut self, mode: Mode, actor: u8, call: &Call, outcome: Outcome)
-        requires orderly { IsOrderly self.old.base self.old.objects }
+        requires sound { IsSound self.old.base self.old.objects }
         requires task { ended_by actor call.now outcome < 256 }
         ensures { self.new ≡ without_holdings mode self.old (ended_by actor call.now outcome) }
     {

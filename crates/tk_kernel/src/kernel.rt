@@ -7,18 +7,23 @@ ghost use Rattle.kernel_model.specs.SemFlags.Tables.{sem_flags_start};
 ghost use Rattle.object_model.specs.Mutexes.Tables.{mutexes_start};
 ghost use Rattle.context_model.specs.Clocks.Tables.{clocks_start};
 ghost use Rattle.context_model.specs.Contexts.Tables.{contexts_start};
+ghost use Rattle.object_model.specs.Mails.Tables.{mails_start};
+ghost use Rattle.object_model.specs.Pools.Tables.{pools_start};
 ghost use Rattle.step_lemmas.specs.Built.{HasNone};
+ghost use Rattle.step_lemmas.specs.Sound.{IsWhole};
 ghost use Rattle.tk_kernel.specs.Tables.{AreTables};
 ghost use Rattle.machine_model.specs.States.State.{frame_of, no_frame, state_start, with_frame};
 
 use contexts::Contexts;
 use kernel_base::{Base, Event};
+use mail_buffer::Mails;
+use mem_pools::Pools;
 use mutex_prio::Mutexes;
 use sem_flag::SemFlags;
 use std::alloc::{AllocError, Global};
 use std::collections::VecDeque;
 use std::marker::Model;
-use task_machine::{Memory, new_memory, start_frame};
+use task_machine::{Memory, new_memory, size, start_frame};
 use time_events::Clocks;
 use tk_types::{Frame, Script};
 
@@ -28,6 +33,8 @@ pub(crate) struct Kernel {
     pub(crate) base: Base,
     pub(crate) sem_flags: SemFlags,
     pub(crate) mutexes: Mutexes,
+    pub(crate) mails: Mails,
+    pub(crate) pools: Pools,
     pub(crate) clocks: Clocks,
     pub(crate) contexts: Contexts,
     /// By task: the body that a start begins.
@@ -52,14 +59,12 @@ pub(crate) struct Kernel {
 impl Model for Kernel {
     ghost use Rattle.context_model.specs.Hooks.Tables.{hooks_start};
     ghost use Rattle.machine_model.specs.States.State.{State};
-    ghost use Rattle.object_model.specs.Mails.Tables.{mails_start};
-    ghost use Rattle.object_model.specs.Pools.Tables.{pools_start};
     ghost use Rattle.step_lemmas.specs.Built.{no_devices};
     ghost use Rattle.tk_kernel.specs.Tables.{AreTables};
 
     ghost Value = { State };
 
-    ghost view = { λ k. record { base = k.base; objects = record { sem_flags = k.sem_flags; mutexes = k.mutexes; mails = mails_start; pools = pools_start; clocks = k.clocks; contexts = k.contexts; devices = no_devices }; bodies = k.bodies.items; frames = k.frames.items; saved = k.saved.items; memory = k.memory; due = k.due.items; pending = k.pending.items; ticks = k.ticks; hooks = hooks_start; halted = k.halted; steps = k.steps } };
+    ghost view = { λ k. record { base = k.base; objects = record { sem_flags = k.sem_flags; mutexes = k.mutexes; mails = k.mails; pools = k.pools; clocks = k.clocks; contexts = k.contexts; devices = no_devices }; bodies = k.bodies.items; frames = k.frames.items; saved = k.saved.items; memory = k.memory; due = k.due.items; pending = k.pending.items; ticks = k.ticks; hooks = hooks_start; halted = k.halted; steps = k.steps } };
 
     ghost invariant = { λ k. AreTables k.bodies.items k.frames.items k.saved.items };
 }
@@ -88,7 +93,17 @@ fn no_frames(alloc: Global, count: usize) -> Result<Vec<Frame>, AllocError>
     Ok(frames)
 }
 
-/// The tables of the objects, in which there is none.
+/// The tables of mailboxes, message buffers and memory pools, in which there is none.
+fn no_stores(alloc: Global) -> Result<(Mails, Pools), AllocError>
+    ensures mails { IfOk result (λ tables. tables.0 ≡ mails_start) }
+    ensures pools { IfOk result (λ tables. tables.1 ≡ pools_start) }
+{
+    let mails = Mails::new(alloc)?;
+    let pools = Pools::new(alloc)?;
+    Ok((mails, pools))
+}
+
+/// The tables of the other objects, in which there is none.
 fn no_objects(alloc: Global) -> Result<(SemFlags, Mutexes, Clocks, Contexts), AllocError>
     ensures sem_flags { IfOk result (λ tables. tables.0 ≡ sem_flags_start) }
     ensures mutexes { IfOk result (λ tables. tables.1 ≡ mutexes_start) }
@@ -125,15 +140,19 @@ impl Kernel {
         ensures { IfOk result (λ kernel. kernel ≡ state_start script.now) }
     {
         let objects = no_objects(alloc)?;
+        let stores = no_stores(alloc)?;
         let tables = first_frames(alloc, script.boot.body)?;
         let memory = new_memory(alloc)?;
         let base = Base::new(alloc, script.boot.priority)?;
         let (sem_flags, mutexes, clocks, contexts) = objects;
+        let (mails, pools) = stores;
         let (bodies, frames, saved) = tables;
         Ok(Kernel {
             base,
             sem_flags,
             mutexes,
+            mails,
+            pools,
             clocks,
             contexts,
             bodies,
@@ -162,15 +181,18 @@ impl Kernel {
         self.frames[number as usize] = frame;
     }
 
-    /// States, at no cost, that there is a slot for each task, that each task that waits has its places among the stamps
-    /// and by the beginning of its wait, that there is no mailbox, no message buffer, no
-    /// memory pool and no device, and that no hook is set.
+    /// States, at no cost, that there is a place for each task in all tables, that each task that waits has its places
+    /// among the stamps and by the beginning of its wait, that there is no device, and that no hook is set.
     pub(crate) fn known_of_tasks(&self)
+        ensures whole { IsWhole self.now }
         ensures slots { length self.now.base.tasks ≡ 256 }
         ensures places { HavePlaces self.now.base }
         ensures none { HasNone self.now }
     {
         self.base.known_of_tasks();
+        self.mails.known_of_tasks();
+        self.pools.known_of_tasks();
+        let _bytes = size(&self.memory);
     }
 
     /// How many steps are done.

@@ -6,9 +6,9 @@ ghost use Rattle.machine_model.specs.Events.Rest.{IsAtRest};
 ghost use Rattle.machine_model.specs.Runs.Machine.{Machine as MachineView, after_step, new_machine};
 ghost use Rattle.machine_model.specs.Runs.Reached.{after_pace};
 ghost use Rattle.machine_model.specs.Runs.Step.{step};
-ghost use Rattle.machine_model.specs.States.Waits.{IsOrderly};
 ghost use Rattle.step_lemmas.specs.Built.{IsBuilt};
 ghost use Rattle.step_lemmas.specs.Pace.{NeedsNone, lines_with, over_with};
+ghost use Rattle.step_lemmas.specs.Sound.{IsSound};
 ghost use Rattle.tk_kernel.specs.Pace.{pace_of};
 
 use crate::kernel::Kernel;
@@ -64,7 +64,7 @@ fn advance(
     requires limit { budget ≤ 1000000 }
     requires left { kernel.old.steps < budget }
     requires counts { IsCounted kernel.old }
-    requires orderly { IsOrderly kernel.old.base kernel.old.objects }
+    requires sound { IsSound kernel.old.base kernel.old.objects }
     requires rest { IsAtRest mode kernel.old }
     ensures state { OnOk result (kernel.new ≡ after_pace kernel.old (step script.now mode budget kernel.old)) }
     ensures ending { IfOk result (λ over. over ≡ over_with (step script.now mode budget kernel.old)) }

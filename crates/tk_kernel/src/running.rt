@@ -4,8 +4,8 @@ ghost use Rattle.std.specs.Prelude.{◌≡◌, ◌<◌, ◌^◌, ◌∷◌, ◌+
 ghost use Rattle.tk_types.specs.declared.run.Act.TheVariants as acts;
 ghost use Rattle.machine_model.specs.Events.Rest.{IsAtRest};
 ghost use Rattle.machine_model.specs.Runs.Turns.{acted, fell, ran, said_line};
-ghost use Rattle.machine_model.specs.States.Waits.{IsOrderly};
 ghost use Rattle.step_lemmas.specs.Built.{IsBuilt, is_built};
+ghost use Rattle.step_lemmas.specs.Sound.{IsSound};
 
 use crate::kernel::Kernel;
 use std::alloc::AllocError;
@@ -41,7 +41,7 @@ impl Kernel {
     ) -> Result<(), AllocError>
         requires few { self.old.base.made < 2 ^ 63 }
         requires early { self.old.base.time < 2 ^ 63 }
-        requires orderly { IsOrderly self.old.base self.old.objects }
+        requires sound { IsSound self.old.base self.old.objects }
         ensures state { OnOk result (self.new ≡ (fell mode step self.old actor).state) }
         ensures lines { OnOk result (lines.new.items ≡ lines.old.items ++ (fell mode step self.old actor).lines) }
     {
@@ -64,7 +64,7 @@ impl Kernel {
     ) -> Result<bool, AllocError>
         requires few { self.old.base.made < 2 ^ 63 }
         requires early { self.old.base.time < 2 ^ 63 }
-        requires orderly { IsOrderly self.old.base self.old.objects }
+        requires sound { IsSound self.old.base self.old.objects }
         requires built { (call : _) → act.now ≡ acts.Call call → is_built call ≡ true }
         requires rest { IsAtRest mode self.old }
         ensures state { OnOk result (self.new ≡ (acted mode step self.old actor act.now).state) }
@@ -109,7 +109,7 @@ impl Kernel {
         requires built { IsBuilt script.now }
         requires few { self.old.base.made < 2 ^ 63 }
         requires early { self.old.base.time < 2 ^ 63 }
-        requires orderly { IsOrderly self.old.base self.old.objects }
+        requires sound { IsSound self.old.base self.old.objects }
         requires rest { IsAtRest mode self.old }
         ensures state { OnOk result (self.new ≡ (ran script.now mode step self.old actor).state) }
         ensures lines { OnOk result (lines.new.items ≡ lines.old.items ++ (ran script.now mode step self.old actor).lines) }

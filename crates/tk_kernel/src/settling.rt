@@ -6,7 +6,7 @@ ghost use Rattle.machine_model.specs.Events.Rest.{IsAtRest};
 ghost use Rattle.machine_model.specs.Events.Settle.{handed, refreshed, served_within};
 ghost use Rattle.machine_model.specs.Events.Follow.{delays, dispatched, follow_release, followed, release_line, settled, with_releases};
 ghost use Rattle.machine_model.specs.States.State.{parts_of, with_parts};
-ghost use Rattle.machine_model.specs.States.Waits.{IsOrderly};
+ghost use Rattle.step_lemmas.specs.Sound.{IsSound};
 
 use crate::kernel::Kernel;
 use kernel_base::Release;
@@ -49,11 +49,11 @@ impl Kernel {
         mutex_prio::resettle(&mut self.base, &self.mutexes);
     }
 
-    /// The same; each task that waits still stands in its order.
+    /// The same; what waits still stands in its order and has asked for something that fits.
     fn refresh(&mut self)
-        requires orderly { IsOrderly self.old.base self.old.objects }
+        requires sound { IsSound self.old.base self.old.objects }
         ensures taken { self.new ≡ with_parts self.old (refreshed (parts_of self.old)) }
-        ensures orderly { IsOrderly self.new.base self.new.objects }
+        ensures sound { IsSound self.new.base self.new.objects }
     {
         self.known_of_tasks();
         self.take_priorities();
@@ -68,7 +68,7 @@ impl Kernel {
 
     /// Changed priorities are taken over, and waiters are served one after another until none can be.
     fn serve_all(&mut self)
-        requires orderly { IsOrderly self.old.base self.old.objects }
+        requires sound { IsSound self.old.base self.old.objects }
         ensures { self.new ≡ with_parts self.old (served_within 512 (refreshed (parts_of self.old))) }
     {
         self.refresh();
@@ -83,18 +83,18 @@ impl Kernel {
     /// Settling: changed priorities are taken over, waiters are served until none can be, and requests go to drivers.
     #[tactic(auto, unfolding(machine_model::specs::Events::Settle::settle))]
     fn settle_parts(&mut self, mode: Mode)
-        requires orderly { IsOrderly self.old.base self.old.objects }
+        requires sound { IsSound self.old.base self.old.objects }
         ensures { self.new ≡ settled mode self.old }
     {
         self.serve_all();
         self.hand_over(mode);
     }
 
-    /// The same; each task that waits still stands in its order.
+    /// The same; what waits still stands in its order and has asked for something that fits.
     pub(crate) fn settle(&mut self, mode: Mode)
-        requires orderly { IsOrderly self.old.base self.old.objects }
+        requires sound { IsSound self.old.base self.old.objects }
         ensures settled { self.new ≡ settled mode self.old }
-        ensures orderly { IsOrderly self.new.base self.new.objects }
+        ensures sound { IsSound self.new.base self.new.objects }
     {
         self.known_of_tasks();
         self.settle_parts(mode);
@@ -172,7 +172,7 @@ impl Kernel {
         step: u32,
         lines: &mut Vec<Line>,
     ) -> Result<(), AllocError>
-        requires orderly { IsOrderly self.old.base self.old.objects }
+        requires sound { IsSound self.old.base self.old.objects }
         ensures state { OnOk result (self.new ≡ (followed script.now mode step self.old).state) }
         ensures lines { OnOk result (lines.new.items ≡ lines.old.items ++ (followed script.now mode step self.old).lines) }
     {

@@ -5,9 +5,9 @@ ghost use Rattle.std.specs.Bool.{◌==◌};
 ghost use Rattle.std.specs.List.{list_any};
 ghost use Rattle.machine_model.specs.Events.Rest.{IsAtRest};
 ghost use Rattle.machine_model.specs.Runs.Step.{end_after, has_event, is_paced, is_quiet, made_pending, paced, worked};
-ghost use Rattle.machine_model.specs.States.Waits.{IsOrderly};
 ghost use Rattle.step_lemmas.specs.Built.{IsBuilt};
 ghost use Rattle.step_lemmas.specs.Pace.{end_lines};
+ghost use Rattle.step_lemmas.specs.Sound.{IsSound};
 
 use crate::kernel::Kernel;
 use std::alloc::AllocError;
@@ -119,7 +119,7 @@ impl Kernel {
         requires few { self.old.base.made + length self.old.base.events < 2 ^ 63 }
         requires early { self.old.base.time + 1 < 2 ^ 63 }
         requires ticks { self.old.ticks < 2 ^ 31 }
-        requires orderly { IsOrderly self.old.base self.old.objects }
+        requires sound { IsSound self.old.base self.old.objects }
         requires rest { IsAtRest mode self.old }
         ensures state { OnOk result (self.new ≡ (worked script.now mode step self.old).state) }
         ensures lines { OnOk result (lines.new.items ≡ lines.old.items ++ (worked script.now mode step self.old).lines) }

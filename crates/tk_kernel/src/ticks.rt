@@ -2,8 +2,8 @@
 
 ghost use Rattle.std.specs.Prelude.{◌≡◌, ◌<◌, ◌≤◌, ◌+◌, ◌^◌, ◌++◌, OnOk, length};
 ghost use Rattle.machine_model.specs.Events.Ticks.{due_done, limit_answer, tick};
-ghost use Rattle.machine_model.specs.States.Waits.{IsOrderly};
 ghost use Rattle.step_lemmas.specs.Falling.{fell_due};
+ghost use Rattle.step_lemmas.specs.Sound.{IsSound};
 
 use crate::kernel::Kernel;
 use kernel_base::answers::plain;
@@ -27,7 +27,7 @@ fn limit_answer(base: &Base, task: u8) -> Answer
 impl Kernel {
     /// An event that fell due: settling follows the end of a wait, and a handler joins those that wait to start.
     fn fall(&mut self, mode: Mode, what: Event) -> Result<(), AllocError>
-        requires orderly { IsOrderly self.old.base self.old.objects }
+        requires sound { IsSound self.old.base self.old.objects }
         ensures { OnOk result (self.new ≡ fell_due mode self.old what) }
     {
         match what {
@@ -47,7 +47,7 @@ impl Kernel {
     fn end_due(&mut self, mode: Mode, most: usize) -> Result<(), AllocError>
         requires few { self.old.base.made + most ≤ 2 ^ 63 }
         requires early { self.old.base.time < 2 ^ 63 }
-        requires orderly { IsOrderly self.old.base self.old.objects }
+        requires sound { IsSound self.old.base self.old.objects }
         ensures { OnOk result (self.new ≡ due_done most mode self.old) }
     {
         'due: for _done in 0..most {
@@ -70,7 +70,7 @@ impl Kernel {
     ) -> Result<(), AllocError>
         requires few { self.old.base.made + length self.old.base.events ≤ 2 ^ 63 }
         requires early { self.old.base.time + 1 < 2 ^ 63 }
-        requires orderly { IsOrderly self.old.base self.old.objects }
+        requires sound { IsSound self.old.base self.old.objects }
         ensures state { OnOk result (self.new ≡ (tick mode step self.old).state) }
         ensures lines { OnOk result (lines.new.items ≡ lines.old.items ++ (tick mode step self.old).lines) }
     {

@@ -3,8 +3,8 @@
 ghost use Rattle.std.specs.Prelude.{◌≡◌, ◌<◌, ◌≤◌, ◌+◌, ◌^◌, ◌++◌, IfOk, OnOk, false, length};
 ghost use Rattle.machine_model.specs.Events.Rest.{IsAtRest};
 ghost use Rattle.machine_model.specs.Runs.Turns.{done_turn, turn_of, turn_of_events};
-ghost use Rattle.machine_model.specs.States.Waits.{IsOrderly};
 ghost use Rattle.step_lemmas.specs.Built.{IsBuilt};
+ghost use Rattle.step_lemmas.specs.Sound.{IsSound};
 
 use crate::kernel::Kernel;
 use machine_model::turns::Turn;
@@ -58,7 +58,7 @@ impl Kernel {
         requires built { IsBuilt script.now }
         requires few { self.old.base.made + length self.old.base.events < 2 ^ 63 }
         requires early { self.old.base.time + 1 < 2 ^ 63 }
-        requires orderly { IsOrderly self.old.base self.old.objects }
+        requires sound { IsSound self.old.base self.old.objects }
         requires rest { IsAtRest mode self.old }
         ensures state { OnOk result (self.new ≡ (done_turn script.now mode step self.old turn).state) }
         ensures lines { OnOk result (lines.new.items ≡ lines.old.items ++ (done_turn script.now mode step self.old turn).lines) }

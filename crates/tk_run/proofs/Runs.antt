@@ -301,3 +301,11 @@ turns_begin held faults room script mode budget left m is low left_is = record {
   running = run_starts held faults room (writing (trace script mode budget [])) (rest m left)
       (ap (λ (m : Machine). rest m left) is ∙ (ap (λ n. rest (new_machine script mode budget) n) left_is ∙ new_rest script mode budget));
 }
+
+-- ---- the end of a run
+
+-- no run ends by itself with a fault of the sink
+pub never_faults : {A : Type 0} → (end : End) (status : Status) → status ≡ status_of_last (last_of end) → status ≡ statuses.WriteFault → A
+never_faults ends.Idle status is fault = absurd (cc (is, fault))
+never_faults ends.Halt status is fault = absurd (cc (is, fault))
+never_faults ends.Budget status is fault = absurd (cc (is, fault))

@@ -7,7 +7,11 @@ mod command;
 mod context_runs;
 mod entry;
 #[cfg(test)]
+mod mail_runs;
+#[cfg(test)]
 mod mutex_runs;
+#[cfg(test)]
+mod pool_runs;
 mod refusal;
 mod run;
 mod running;

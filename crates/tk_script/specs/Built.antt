@@ -24,87 +24,51 @@ is_built_kind Task = true
 is_built_kind Hand = true
 is_built_kind Svc = true
 
--- the calls on tasks
-unfoldable pub is_task_call : CallName → Bool
-is_task_call calls.TkCreTsk = true
-is_task_call calls.TkDelTsk = true
-is_task_call calls.TkStaTsk = true
-is_task_call calls.TkExtTsk = true
-is_task_call calls.TkExdTsk = true
-is_task_call calls.TkTerTsk = true
-is_task_call calls.TkChgPri = true
-is_task_call calls.TkRotRdq = true
-is_task_call calls.TkGetTid = true
-is_task_call calls.TkRefTsk = true
-is_task_call calls.TkSlpTsk = true
-is_task_call calls.TkWupTsk = true
-is_task_call calls.TkCanWup = true
-is_task_call calls.TkRelWai = true
-is_task_call calls.TkSusTsk = true
-is_task_call calls.TkRsmTsk = true
-is_task_call calls.TkFrsmTsk = true
-is_task_call calls.TkDlyTsk = true
-is_task_call _ = false
+-- the calls on devices
+unfoldable pub is_device_call : CallName → Bool
+is_device_call calls.TkOpnDev = true
+is_device_call calls.TkReaDev = true
+is_device_call calls.TkWriDev = true
+is_device_call calls.TkSreaDev = true
+is_device_call calls.TkSwriDev = true
+is_device_call calls.TkWaiDev = true
+is_device_call calls.TkClsDev = true
+is_device_call calls.TkSusDev = true
+is_device_call calls.TkRefDev = true
+is_device_call _ = false
 
--- the calls on semaphores and event flags
-unfoldable pub is_sem_flag_call : CallName → Bool
-is_sem_flag_call calls.TkCreSem = true
-is_sem_flag_call calls.TkSigSem = true
-is_sem_flag_call calls.TkWaiSem = true
-is_sem_flag_call calls.TkRefSem = true
-is_sem_flag_call calls.TkCreFlg = true
-is_sem_flag_call calls.TkSetFlg = true
-is_sem_flag_call calls.TkClrFlg = true
-is_sem_flag_call calls.TkWaiFlg = true
-is_sem_flag_call calls.TkRefFlg = true
-is_sem_flag_call calls.TkDelSem = true
-is_sem_flag_call calls.TkDelFlg = true
-is_sem_flag_call _ = false
+-- the calls of a debugger
+unfoldable pub is_debugger_call : CallName → Bool
+is_debugger_call calls.TdLstTsk = true
+is_debugger_call calls.TdLstSem = true
+is_debugger_call calls.TdLstFlg = true
+is_debugger_call calls.TdLstMbx = true
+is_debugger_call calls.TdLstMtx = true
+is_debugger_call calls.TdLstMbf = true
+is_debugger_call calls.TdLstMpf = true
+is_debugger_call calls.TdLstMpl = true
+is_debugger_call calls.TdLstCyc = true
+is_debugger_call calls.TdLstAlm = true
+is_debugger_call calls.TdLstSsy = true
+is_debugger_call calls.TdRdyQue = true
+is_debugger_call calls.TdSemQue = true
+is_debugger_call calls.TdFlgQue = true
+is_debugger_call calls.TdMbxQue = true
+is_debugger_call calls.TdMtxQue = true
+is_debugger_call calls.TdSmbfQue = true
+is_debugger_call calls.TdRmbfQue = true
+is_debugger_call calls.TdMpfQue = true
+is_debugger_call calls.TdMplQue = true
+is_debugger_call calls.TdHokSvc = true
+is_debugger_call calls.TdHokDsp = true
+is_debugger_call calls.TdHokInt = true
+is_debugger_call _ = false
 
--- the calls on mutexes
-unfoldable pub is_mutex_call : CallName → Bool
-is_mutex_call calls.TkCreMtx = true
-is_mutex_call calls.TkLocMtx = true
-is_mutex_call calls.TkUnlMtx = true
-is_mutex_call calls.TkRefMtx = true
-is_mutex_call calls.TkDelMtx = true
-is_mutex_call _ = false
-
--- the calls on time, cyclic and alarm handlers
-unfoldable pub is_time_call : CallName → Bool
-is_time_call calls.TkSetTim = true
-is_time_call calls.TkGetTim = true
-is_time_call calls.TkGetOtm = true
-is_time_call calls.TkCreCyc = true
-is_time_call calls.TkStaCyc = true
-is_time_call calls.TkStpCyc = true
-is_time_call calls.TkDelCyc = true
-is_time_call calls.TkRefCyc = true
-is_time_call calls.TkCreAlm = true
-is_time_call calls.TkStaAlm = true
-is_time_call calls.TkStpAlm = true
-is_time_call calls.TkDelAlm = true
-is_time_call calls.TkRefAlm = true
-is_time_call _ = false
-
--- the calls on interrupts, on what delays dispatching, and on subsystems
-unfoldable pub is_context_call : CallName → Bool
-is_context_call calls.TkDefInt = true
-is_context_call calls.TkDisDsp = true
-is_context_call calls.TkEnaDsp = true
-is_context_call calls.Di = true
-is_context_call calls.Ei = true
-is_context_call calls.TkRefSys = true
-is_context_call calls.TkDefSsy = true
-is_context_call calls.TkRefSsy = true
-is_context_call calls.Svc = true
-is_context_call _ = false
-
--- calls: those of these families
+-- calls: all but these
 abbrev pub is_built_call : CallName → Bool
-is_built_call name = is_task_call name || is_sem_flag_call name || is_mutex_call name || is_time_call name || is_context_call name
+is_built_call name = if is_device_call name || is_debugger_call name then false else true
 
--- statements: all but the calls of other families
+-- statements: all but such calls
 unfoldable pub is_built_stmt : Head → Bool
 is_built_stmt (heads.Call name) = is_built_call name
 is_built_stmt _ = true

@@ -1,7 +1,7 @@
 //! What isn't built yet. This file and `specs/Built.antt` are the one place that says how much is.
 
 ghost use Rattle.std.specs.Prelude.{◌≡◌, length, drop};
-ghost use Rattle.tk_script.specs.Built.{first_some, first_unbuilt, is_built_call, is_built_item, is_built_kind, is_built_stmt, is_context_call, is_mutex_call, is_sem_flag_call, is_task_call, is_time_call, unbuilt_bodies, unbuilt_body, unbuilt_header, unbuilt_item, unless_built};
+ghost use Rattle.tk_script.specs.Built.{first_some, first_unbuilt, is_built_call, is_built_item, is_built_kind, is_built_stmt, is_debugger_call, is_device_call, unbuilt_bodies, unbuilt_body, unbuilt_header, unbuilt_item, unless_built};
 
 use crate::numbers::{behind, behind_body, boot_numbers, first_number, pace_count};
 use tk_raw::{Head, RawBody, RawItem, RawScript};
@@ -26,108 +26,54 @@ fn is_built_kind(kind: BodyKind) -> bool
     }
 }
 
-/// Whether it is a call on tasks.
-#[tactic(auto, unfolding(crate::specs::Built::is_task_call))]
-fn is_task_call(name: CallName) -> bool
-    ensures { result ≡ is_task_call name }
+/// Whether it is a call on devices.
+#[tactic(auto, unfolding(crate::specs::Built::is_device_call))]
+fn is_device_call(name: CallName) -> bool
+    ensures { result ≡ is_device_call name }
 {
     match name {
-        CallName::TkCreTsk
-        | CallName::TkDelTsk
-        | CallName::TkStaTsk
-        | CallName::TkExtTsk
-        | CallName::TkExdTsk
-        | CallName::TkTerTsk
-        | CallName::TkChgPri
-        | CallName::TkRotRdq
-        | CallName::TkGetTid
-        | CallName::TkRefTsk
-        | CallName::TkSlpTsk
-        | CallName::TkWupTsk
-        | CallName::TkCanWup
-        | CallName::TkRelWai
-        | CallName::TkSusTsk
-        | CallName::TkRsmTsk
-        | CallName::TkFrsmTsk
-        | CallName::TkDlyTsk => true,
+        CallName::TkOpnDev
+        | CallName::TkReaDev
+        | CallName::TkWriDev
+        | CallName::TkSreaDev
+        | CallName::TkSwriDev
+        | CallName::TkWaiDev
+        | CallName::TkClsDev
+        | CallName::TkSusDev
+        | CallName::TkRefDev => true,
         _ => false,
     }
 }
 
-/// Whether it is a call on a semaphore or an event flag.
-#[tactic(auto, unfolding(crate::specs::Built::is_sem_flag_call))]
-fn is_sem_flag_call(name: CallName) -> bool
-    ensures { result ≡ is_sem_flag_call name }
+/// Whether it is a call of a debugger.
+#[tactic(auto, unfolding(crate::specs::Built::is_debugger_call))]
+fn is_debugger_call(name: CallName) -> bool
+    ensures { result ≡ is_debugger_call name }
 {
     match name {
-        CallName::TkCreSem
-        | CallName::TkSigSem
-        | CallName::TkWaiSem
-        | CallName::TkRefSem
-        | CallName::TkCreFlg
-        | CallName::TkSetFlg
-        | CallName::TkClrFlg
-        | CallName::TkWaiFlg
-        | CallName::TkRefFlg
-        | CallName::TkDelSem
-        | CallName::TkDelFlg => true,
-        _ => false,
-    }
-}
-
-/// Whether it is a call on a mutex.
-#[tactic(auto, unfolding(crate::specs::Built::is_mutex_call))]
-fn is_mutex_call(name: CallName) -> bool
-    ensures { result ≡ is_mutex_call name }
-{
-    match name {
-        CallName::TkCreMtx
-        | CallName::TkLocMtx
-        | CallName::TkUnlMtx
-        | CallName::TkRefMtx
-        | CallName::TkDelMtx => true,
-        _ => false,
-    }
-}
-
-/// Whether it is a call on time, or on a cyclic or an alarm handler.
-#[tactic(auto, unfolding(crate::specs::Built::is_time_call))]
-fn is_time_call(name: CallName) -> bool
-    ensures { result ≡ is_time_call name }
-{
-    match name {
-        CallName::TkSetTim
-        | CallName::TkGetTim
-        | CallName::TkGetOtm
-        | CallName::TkCreCyc
-        | CallName::TkStaCyc
-        | CallName::TkStpCyc
-        | CallName::TkDelCyc
-        | CallName::TkRefCyc
-        | CallName::TkCreAlm
-        | CallName::TkStaAlm
-        | CallName::TkStpAlm
-        | CallName::TkDelAlm
-        | CallName::TkRefAlm => true,
-        _ => false,
-    }
-}
-
-/// Whether it is a call on interrupts, on what delays dispatching, or on a subsystem.
-#[tactic(auto, unfolding(crate::specs::Built::is_context_call))]
-fn is_context_call(name: CallName) -> bool
-    ensures { result ≡ is_context_call name }
-{
-    match name {
-        CallName::TkDefInt
-        | CallName::TkDisDsp
-        | CallName::TkEnaDsp
-        | CallName::Di
-        | CallName::Ei
-        | CallName::TkRefSys
-        | CallName::TkDefSsy
-        | CallName::TkRefSsy
-        | CallName::Svc => true,
+        CallName::TdLstTsk
+        | CallName::TdLstSem
+        | CallName::TdLstFlg
+        | CallName::TdLstMbx
+        | CallName::TdLstMtx
+        | CallName::TdLstMbf
+        | CallName::TdLstMpf
+        | CallName::TdLstMpl
+        | CallName::TdLstCyc
+        | CallName::TdLstAlm
+        | CallName::TdLstSsy
+        | CallName::TdRdyQue
+        | CallName::TdSemQue
+        | CallName::TdFlgQue
+        | CallName::TdMbxQue
+        | CallName::TdMtxQue
+        | CallName::TdSmbfQue
+        | CallName::TdRmbfQue
+        | CallName::TdMpfQue
+        | CallName::TdMplQue
+        | CallName::TdHokSvc
+        | CallName::TdHokDsp
+        | CallName::TdHokInt => true,
         _ => false,
     }
 }
@@ -136,11 +82,7 @@ fn is_context_call(name: CallName) -> bool
 fn is_built_call(name: CallName) -> bool
     ensures { result ≡ is_built_call name }
 {
-    is_task_call(name)
-        || is_sem_flag_call(name)
-        || is_mutex_call(name)
-        || is_time_call(name)
-        || is_context_call(name)
+    !is_device_call(name) && !is_debugger_call(name)
 }
 
 /// Whether a statement is built.

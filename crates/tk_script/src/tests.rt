@@ -152,12 +152,12 @@ fn the_first_line_not_built_is_told(rt: HostRuntime) -> Result<(), Fail> {
             None,
         ),
         (
-            "utk 1\nboot main 10\nbody main task\nlabel a\n# note\ntk_cre_mbx -\nend\n",
+            "utk 1\nboot main 10\nbody main task\nlabel a\n# note\ntd_hok_dsp 1\nend\n",
             Some((6, Why::Later)),
         ),
         (
-            "utk 1\nboot main 10\nbody main task\ntk_cre_mtx - 0\ntk_cre_mpl - 64\nend\n",
-            Some((5, Why::Later)),
+            "utk 1\nboot main 10\nbody main task\ntk_cre_mtx - 0\ntk_cre_mpl - 64\ntk_cls_dev 1\nend\n",
+            Some((6, Why::Later)),
         ),
         (
             "utk 1\nirq 1 1\nboot main 10\nbody main task\nend\nbody h hand\ntd_hok_int 1\nend\n",

@@ -1,9 +1,11 @@
 use Rattle.paragraph_laws.proofs.Boxes.{box_call_is_paragraph}
+use Rattle.paragraph_laws.proofs.BufferCalls.{receive_call_is_paragraph, send_call_is_paragraph}
 use Rattle.paragraph_laws.proofs.Pools.{fixed_call_is_paragraph}
 use Rattle.paragraph_laws.proofs.SemFlags.{flag_call_is_paragraph, sem_call_is_paragraph}
 use Rattle.paragraph_laws.proofs.Settled.{rest_settled}
 use Rattle.paragraph_laws.proofs.VariablePools.{variable_call_is_paragraph}
-use Rattle.machine_lemmas.proofs.ReachedRest.{reached_rest}
+use Rattle.std.proofs.Common.{ℕ, ◌≤◌, subst, sym, arith}
+use Rattle.machine_lemmas.proofs.ReachedRest.{reached_rest, reached_slots}
 use Rattle.table_lemmas.proofs.ReachedShort.{reached_short}
 use Rattle.paragraph_laws.proofs.laws.a_waiting_call_is_the_paragraph.Goals as goal
 
@@ -15,6 +17,11 @@ returns-clause-short c = reached_short
 
 pub returns-clause-reached : goal.returns-clause-reached
 returns-clause-reached c = λ script mode budget moves runnable. rest_settled mode _ (reached_rest script mode budget moves runnable) (reached_short script mode budget moves runnable)
+
+pub returns-clause-bounded : goal.returns-clause-bounded
+returns-clause-bounded c = λ script mode budget moves runnable.
+    let reached = reached_slots script mode budget moves runnable in
+    record { links = reached.few; slots = subst (λ (n : ℕ). n ≤ 256) (sym reached.base) (omega arith) }
 
 pub returns-clause-semaphore : goal.returns-clause-semaphore
 returns-clause-semaphore c = sem_call_is_paragraph
@@ -30,3 +37,9 @@ returns-clause-fixed c = fixed_call_is_paragraph
 
 pub returns-clause-variable : goal.returns-clause-variable
 returns-clause-variable c = variable_call_is_paragraph
+
+pub returns-clause-send : goal.returns-clause-send
+returns-clause-send c = send_call_is_paragraph
+
+pub returns-clause-receive : goal.returns-clause-receive
+returns-clause-receive c = receive_call_is_paragraph

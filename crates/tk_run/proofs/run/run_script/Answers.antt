@@ -1,5 +1,5 @@
 use Rattle.std.proofs.Common.{◌+◌, ◌-◌, ap, refl, ◌∙◌, inl, arith}
-use Rattle.tk_run.proofs.Runs.{turns_begin, turn_goes_on, run_ends, end_is, run_fails, run_stops, stop_is_certain, turn_is_certain}
+use Rattle.tk_run.proofs.Runs.{never_faults, turns_begin, turn_goes_on, run_ends, end_is, run_fails, run_stops, stop_is_certain, turn_is_certain}
 use Rattle.tk_run.proofs.run.run_script.Goals as goal
 
 pub steps-init : goal.steps-init
@@ -15,6 +15,9 @@ pub returns-in-Over-clause-outcome : goal.returns-in-Over-clause-outcome
 returns-in-Over-clause-outcome g c =
     let turn = c.in-Over.ensures in
     run_ends _ _ (c.args.budget - c.steps._step) c.in-Over.end _ c.steps.invariant (omega arith) turn.answer.0 turn.answer.1 turn.answer.2 c.status_of_end.ensures
+
+pub returns-in-Over-clause-write_fault : goal.returns-in-Over-clause-write_fault
+returns-in-Over-clause-write_fault g c = never_faults c.in-Over.end _ c.status_of_end.ensures
 
 pub returns-in-Over-clause-certain : goal.returns-in-Over-clause-certain
 returns-in-Over-clause-certain g c =

@@ -18,7 +18,7 @@ mutexes-preserved c = record {
       c.settle.ensures.settled c.mutexes.invariant.all;
   same = same_parts c.args.self.now c.free_one.new.self c.settle.new.self (settle c.args.mode (parts_of c.free_one.new.self))
       (same_parts c.args.self.now c.mutexes.self c.free_one.new.self (parts_of (freed_by c.args.task c.mutexes.self)) c.mutexes.invariant.same c.free_one.ensures.left) c.settle.ensures.settled;
-  orderly = c.settle.ensures.orderly;
+  sound = c.settle.ensures.sound;
 }
 
 pub returns : goal.returns

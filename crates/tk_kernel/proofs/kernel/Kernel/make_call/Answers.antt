@@ -1,9 +1,9 @@
-use Rattle.step_lemmas.proofs.Endings.{call_orderly, ended_small, told_lines}
+use Rattle.step_lemmas.proofs.Endings.{call_sound, ended_small, told_lines}
 use Rattle.tk_kernel.proofs.kernel.Kernel.make_call.Goals as goal
 
 pub end_holdings-requires : goal.end_holdings-requires
 end_holdings-requires c = record {
-  orderly = call_orderly c.args.self.now c.family_call.new.self c.args.actor c.args.call.now _ c.known_of_tasks.ensures.places c.known_of_tasks.ensures.none c.requires.orderly c.in_ok-outcome.ensures;
+  sound = call_sound c.args.self.now c.family_call.new.self c.args.actor c.args.call.now _ c.known_of_tasks.ensures.places c.known_of_tasks.ensures.whole c.known_of_tasks.ensures.none c.requires.sound c.in_ok-outcome.ensures;
   task = ended_small c.args.self.now c.family_call.new.self c.args.actor c.args.call.now _ c.ranges.actor.fits c.in_ok-outcome.ensures;
 }
 

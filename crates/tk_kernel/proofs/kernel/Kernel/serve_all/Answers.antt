@@ -10,22 +10,22 @@ pub servings-init : goal.servings-init
 servings-init c = record {
   all = ap {A = State} (λ s. served_within 512 (parts_of s)) c.refresh.ensures.taken;
   same = same_parts c.args.self.now c.args.self.now c.refresh.new.self (refreshed (parts_of c.args.self.now)) refl c.refresh.ensures.taken;
-  orderly = c.refresh.ensures.orderly;
+  sound = c.refresh.ensures.sound;
 }
 
 pub returns-then-not-serve_first : goal.returns-then-not-serve_first
 returns-then-not-serve_first c =
     with_same c.args.self.now c.servings.self c.serve_first.new.self _ c.servings.invariant.same
-    (served_over _ c.servings.self c.serve_first.new.self _ (sym c.serve_first.ensures.served ∙ c.if-not-serve_first.true) c.serve_first.ensures.left c.servings.invariant.all)
+    (served_over _ c.servings.self c.serve_first.new.self _ (sym c.serve_first.ensures.serves.served ∙ c.if-not-serve_first.true) c.serve_first.ensures.serves.left c.servings.invariant.all)
 
 pub servings-preserved : goal.servings-preserved
 servings-preserved c = record {
   all =
-      served_more c.servings._served c.servings.self c.serve_first.new.self c.refresh-in-servings.new.self _ (omega arith) (sym c.serve_first.ensures.served ∙ c.if-not-serve_first.false) c.serve_first.ensures.left
+      served_more c.servings._served c.servings.self c.serve_first.new.self c.refresh-in-servings.new.self _ (omega arith) (sym c.serve_first.ensures.serves.served ∙ c.if-not-serve_first.false) c.serve_first.ensures.serves.left
       c.refresh-in-servings.ensures.taken c.servings.invariant.all;
   same = same_parts c.args.self.now c.serve_first.new.self c.refresh-in-servings.new.self (refreshed (parts_of c.serve_first.new.self))
-      (same_parts c.args.self.now c.servings.self c.serve_first.new.self (unwrap_or (serve_object (parts_of c.servings.self)) (parts_of c.servings.self)) c.servings.invariant.same c.serve_first.ensures.left) c.refresh-in-servings.ensures.taken;
-  orderly = c.refresh-in-servings.ensures.orderly;
+      (same_parts c.args.self.now c.servings.self c.serve_first.new.self (unwrap_or (serve_object (parts_of c.servings.self)) (parts_of c.servings.self)) c.servings.invariant.same c.serve_first.ensures.serves.left) c.refresh-in-servings.ensures.taken;
+  sound = c.refresh-in-servings.ensures.sound;
 }
 
 pub returns : goal.returns

@@ -1,13 +1,6 @@
-use Rattle.std.proofs.Common.{◌∙◌, ap, sym}
-use Rattle.std.specs.Option.{is_some}
-use Rattle.machine_model.specs.States.State.{State, parts_of}
-use Rattle.step_lemmas.specs.Kinds.{mutexes, served_by}
 use Rattle.tk_kernel.specs.contracts.kernel.Kernel.{the_view}
-use Rattle.step_lemmas.proofs.Servings.{mutexes_is, mutexes_left}
+use Rattle.step_lemmas.proofs.Servings.{mutexes_serve}
 use Rattle.tk_kernel.proofs.kernel.Kernel.serve_mutex.Goals as goal
 
-pub returns-clause-served : goal.returns-clause-served
-returns-clause-served c = c.serve_first.ensures.served ∙ sym (mutexes_is (the_view c.self.inside)) ∙ ap (λ (st : State). is_some (mutexes (parts_of st))) c.self.view_is
-
-pub returns-clause-left : goal.returns-clause-left
-returns-clause-left c = mutexes_left (the_view c.self.inside) c.serve_first.new.base c.serve_first.new.table c.serve_first.ensures.left ∙ ap (served_by mutexes) c.self.view_is
+pub returns : goal.returns
+returns c = mutexes_serve (the_view c.self.inside) c.args.self.now c.serve_first.new.base c.serve_first.new.table _ c.self.view_is c.serve_first.ensures.served c.serve_first.ensures.left

@@ -1,6 +1,6 @@
 use Rattle.std.proofs.Common.{ap, arith, length, ◌≡◌}
 use Rattle.kernel_model.specs.Tasks.Base.{Base}
-use Rattle.step_lemmas.proofs.Still.{done_orderly, pending_at_rest, pending_base, pending_orderly, rest_lines, rest_state, work_lines, work_state}
+use Rattle.step_lemmas.proofs.Still.{done_sound, pending_at_rest, pending_base, pending_sound, rest_lines, rest_state, work_lines, work_state}
 use Rattle.tk_kernel.proofs.kernel.Kernel.work.Goals as goal
 
 pub do_turn-requires-clause-few : goal.do_turn-requires-clause-few
@@ -17,15 +17,15 @@ do_turn-requires-clause-early c =
     let early = c.requires.early in
     omega (arith, time, early)
 
-pub do_turn-requires-clause-orderly : goal.do_turn-requires-clause-orderly
-do_turn-requires-clause-orderly c = pending_orderly c.args.script.now c.args.step c.args.self.now c.make_pending.new.self c.requires.orderly c.in_ok-make_pending.ensures
+pub do_turn-requires-clause-sound : goal.do_turn-requires-clause-sound
+do_turn-requires-clause-sound c = pending_sound c.args.script.now c.args.step c.args.self.now c.make_pending.new.self c.requires.sound c.in_ok-make_pending.ensures
 
 pub do_turn-requires-clause-rest : goal.do_turn-requires-clause-rest
 do_turn-requires-clause-rest c = pending_at_rest c.args.script.now c.args.mode c.args.step c.args.self.now c.make_pending.new.self c.requires.rest c.in_ok-make_pending.ensures
 
 pub follow-requires : goal.follow-requires
 follow-requires c = record {
-  orderly = done_orderly c.args.script.now c.args.mode c.args.step c.args.self.now c.make_pending.new.self c.do_turn.new.self c.turn-turn.result c.known_of_tasks.ensures.places c.known_of_tasks.ensures.none c.requires.orderly
+  sound = done_sound c.args.script.now c.args.mode c.args.step c.args.self.now c.make_pending.new.self c.do_turn.new.self c.turn-turn.result c.known_of_tasks.ensures.places c.known_of_tasks.ensures.whole c.known_of_tasks.ensures.none c.requires.sound
       c.in_ok-make_pending.ensures c.turn-turn.ensures c.in_ok-follows.ensures.state;
 }
 
