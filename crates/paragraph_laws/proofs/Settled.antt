@@ -48,12 +48,14 @@ given_still modes.Free p q same queues is =
 pub refreshed_none : (p : Parts) → AreUpToDate p.base p.objects.mutexes → refreshed p ≡ p
 refreshed_none p is = ap (λ base. record p { base = base }) (resettled_same p.base p.objects.mutexes (λ t least. is.each t least))
 
-served_none : (left : ℕ) (p : Parts) → serve_object p ≡ None → served_within left p ≡ p
+-- where nobody can be served no serving is done
+pub served_none : (left : ℕ) (p : Parts) → serve_object p ≡ None → served_within left p ≡ p
 unfolding served_within
 served_none zero p none = refl
 served_none (suc left) p none = ap (λ next. next_served left p next) none
 
-served_once : (left : ℕ) (p q : Parts) → serve_object p ≡ Some q → served_within (suc left) p ≡ served_within left (refreshed q)
+-- and where somebody can, one is
+pub served_once : (left : ℕ) (p q : Parts) → serve_object p ≡ Some q → served_within (suc left) p ≡ served_within left (refreshed q)
 unfolding served_within
 served_once left p q is = ap (λ next. next_served left p next) is
 

@@ -1,5 +1,6 @@
 use Rattle.paragraph_laws.proofs.Boxes.{box_call_is_paragraph}
 use Rattle.paragraph_laws.proofs.BufferCalls.{receive_call_is_paragraph, send_call_is_paragraph}
+use Rattle.paragraph_laws.proofs.MutexCalls.{lock_call_is_paragraph}
 use Rattle.paragraph_laws.proofs.Pools.{fixed_call_is_paragraph}
 use Rattle.paragraph_laws.proofs.SemFlags.{flag_call_is_paragraph, sem_call_is_paragraph}
 use Rattle.paragraph_laws.proofs.Settled.{rest_settled}
@@ -43,3 +44,6 @@ returns-clause-send c = send_call_is_paragraph
 
 pub returns-clause-receive : goal.returns-clause-receive
 returns-clause-receive c = receive_call_is_paragraph
+
+pub returns-clause-lock : goal.returns-clause-lock
+returns-clause-lock c = lock_call_is_paragraph
