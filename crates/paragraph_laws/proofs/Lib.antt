@@ -14,6 +14,7 @@ pub mod StillWaits
 pub mod Lending
 pub mod Locking
 pub mod MutexCalls
+pub mod Zeros
 pub mod Pools
 pub mod Boxes
 pub mod SemFlags

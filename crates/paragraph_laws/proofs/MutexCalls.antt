@@ -14,6 +14,7 @@ use Rattle.tk_types.specs.declared.task.Order.TheVariants.{Fifo, Priority}
 use Rattle.tk_types.specs.declared.task.Phase.TheVariants.{Waiting}
 use Rattle.tk_types.specs.declared.task.Release.{Release}
 use Rattle.tk_types.specs.declared.task.Task.{Task}
+use Rattle.kernel_model.specs.SemFlags.Trial.{MayWait}
 use Rattle.kernel_model.specs.Tasks.Base.{Base, current, is_waiting, make_wait, queue, release, set_current, task_at, waiting_in, waits_for, waits_somewhere}
 use Rattle.kernel_model.specs.Tasks.Waits.{HavePlaces}
 use Rattle.kernel_model.specs.Words.Checks.{failed, plain}
@@ -38,13 +39,13 @@ use Rattle.machine_lemmas.proofs.HandingServes.{AllKinds, mapped_none}
 use Rattle.machine_lemmas.proofs.Settling.{settled_none}
 use Rattle.table_lemmas.specs.Short.{AreShort}
 use Rattle.table_lemmas.proofs.ReachedShort.{AllShort}
-use Rattle.paragraph_laws.specs.Kept.{IsBounded, after_kept, goes_back, joins_kept, kept_paragraph, mutex_waits, settled_after}
+use Rattle.paragraph_laws.specs.Kept.{IsSound, after_kept, goes_back, joins_kept, kept_paragraph, mutex_waits, settled_after}
 use Rattle.paragraph_laws.specs.Paragraph.{IsSettled, WaitDone, joins, over_or_waits}
 use Rattle.paragraph_laws.proofs.Joined.{AwayFrom, queue_rejoined}
 use Rattle.paragraph_laws.proofs.Lending.{lock_lends, no_waiters, nobody_awaits, resettled_one}
 use Rattle.paragraph_laws.proofs.Locking.{idle_next, joined_fresh, served_current, served_like, served_row, served_tasks, some_caller, stamped_back}
 use Rattle.paragraph_laws.proofs.OneKind.{NoneBut, NoneOf, boxes_beside, buffers_beside, devices_beside, fixed_beside, none_of, only_kind, sem_flags_beside, variable_beside}
-use Rattle.paragraph_laws.proofs.Settled.{given_still, refreshed_none, served_none, served_once}
+use Rattle.paragraph_laws.proofs.Settled.{given_still, may_try, refreshed_none, served_none, served_once}
 use Rattle.paragraph_laws.proofs.Still.{SameQueue, mutex_still}
 use Rattle.paragraph_laws.proofs.StillWaits.{settled_waits}
 use Rattle.paragraph_laws.proofs.Tables.{alone_serves, none_serves, stands_none}
@@ -83,15 +84,15 @@ over_if : (mode : Mode) (p : Parts) (t id : ℕ) (order : Order) (timeout : ℤ)
 over_if mode p t id order timeout true still = ap (λ parts. record { parts = parts; outcome = failed er.TmOut }) still
 over_if mode p t id order timeout false still = refl
 
-owned_case : (mode : Mode) (p : Parts) (t id : ℕ) (timeout : ℤ) (k : Mutex) → IsSettled mode p → IsBounded p → MayTry p.base t → 1 ≤ id → id ≤ 64 → mutex_at p.objects.mutexes id ≡ Some k →
+owned_case : (mode : Mode) (p : Parts) (t id : ℕ) (timeout : ℤ) (k : Mutex) → IsSettled mode p → IsSound p → MayTry p.base t → 1 ≤ id → id ≤ 64 → mutex_at p.objects.mutexes id ≡ Some k →
     (k.owner ≡ 0 → ⊥) →
     settled_after mode (mutex_waits p (waits_or_ends p.base p.objects.mutexes t id k.order timeout))
     ≡ after_kept p t timeout (settle mode (joins_kept p t (mutex_object id) k.order timeout p.objects)) (settle mode (joins p t (mutex_object id) k.order timeout p.objects))
-owned_case mode p t id timeout k settled bounded try one most at owned =
+owned_case mode p t id timeout k settled sound try one most at owned =
     let kept : Parts = joins_kept p t (mutex_object id) k.order timeout p.objects in
     let plainly : Parts = settle mode (joins p t (mutex_object id) k.order timeout p.objects) in
     let waits : waits_for (settle mode kept).base (mutex_object id) t ≡ true =
-    settled_waits t id mode kept bounded.links (all_short kept settled.short) one most (joined_for p.base t (mutex_object id) k.order timeout try) (λ none. owned (ap owner_in (sym at) ∙ none)) in
+    settled_waits t id mode kept sound.links (all_short kept settled.short) one most (joined_for p.base t (mutex_object id) k.order timeout try) (λ none. owned (ap owner_in (sym at) ∙ none)) in
     over_if mode p t id k.order timeout (int_eq timeout (pos 0)) (settled_still mode p settled)
     ∙ sym (still_waits p (settle mode kept) t _ (over_or_waits p plainly timeout) (is_waiting (settle mode kept).base t) (waits_for_waits (settle mode kept).base t (mutex_object id) waits))
 
@@ -330,33 +331,32 @@ one_of_some : (t : ℕ) → (t ≡ 0 → ⊥) → 1 ≤ t
 one_of_some zero some = absurd (some refl)
 one_of_some (suc t) some = omega arith
 
-lock_if : (mode : Mode) (p : Parts) (t id : ℕ) (timeout : ℤ) (k : Mutex) (free : Bool) → (k.owner == 0) ≡ free → IsSettled mode p → IsBounded p → MayTry p.base t → HavePlaces p.base →
-    mutex_at p.objects.mutexes 0 ≡ None → 1 ≤ id → id ≤ 64 → mutex_at p.objects.mutexes id ≡ Some k → 1 ≤ t →
+lock_if : (mode : Mode) (p : Parts) (t id : ℕ) (timeout : ℤ) (k : Mutex) (free : Bool) → (k.owner == 0) ≡ free → IsSettled mode p → IsSound p → MayTry p.base t → 1 ≤ id → id ≤ 64 → mutex_at p.objects.mutexes id ≡ Some k → 1 ≤ t →
     settled_after mode (mutex_waits p (cond free (table_changed p.base (locked p.objects.mutexes id k t) (pos 0)) (waits_or_ends p.base p.objects.mutexes t id k.order timeout)))
     ≡ after_kept p t timeout (settle mode (joins_kept p t (mutex_object id) k.order timeout p.objects)) (settle mode (joins p t (mutex_object id) k.order timeout p.objects))
-lock_if mode p t id timeout k true is settled bounded try places none one most at some =
+lock_if mode p t id timeout k true is settled sound try one most at some =
     free_case mode p t id timeout k (settle mode (joins p t (mutex_object id) k.order timeout p.objects)) (record {
       settled = settled;
       try = try;
-      places = places;
-      first_none = none;
+      places = sound.places;
+      first_none = sound.no_mutex;
       least = one;
       most = most;
       at = at;
       free = grind (arith, nat_tests, is);
       some = some;
     })
-lock_if mode p t id timeout k false is settled bounded try places none one most at some =
-    owned_case mode p t id timeout k settled bounded try one most at (λ free. grind (arith, nat_tests, is, free))
+lock_if mode p t id timeout k false is settled sound try one most at some =
+    owned_case mode p t id timeout k settled sound try one most at (λ free. grind (arith, nat_tests, is, free))
 
 -- a call for a mutex, with all that settles after it, does what the paragraph says
-pub lock_call_is_paragraph : (mode : Mode) (p : Parts) (t id : ℕ) (timeout : ℤ) (k : Mutex) → IsSettled mode p → IsBounded p → MayTry p.base t → HavePlaces p.base →
-    mutex_at p.objects.mutexes 0 ≡ None → 1 ≤ id → mutex_at p.objects.mutexes id ≡ Some k →
+pub lock_call_is_paragraph : (mode : Mode) (p : Parts) (t id : ℕ) (timeout : ℤ) (k : Mutex) → IsSettled mode p → IsSound p → MayWait p.base t → 1 ≤ id → mutex_at p.objects.mutexes id ≡ Some k →
     settled_after mode (mutex_waits p (waited_for_mutex p.base p.objects.mutexes t id timeout (Some k))) ≡
     kept_paragraph mode p t (mutex_object id) k.order timeout p.objects
 unfolding kept_paragraph
-lock_call_is_paragraph mode p t id timeout k settled bounded try places none one at =
+lock_call_is_paragraph mode p t id timeout k settled sound may one at =
+    let try = may_try p t sound may in
     let few = settled.short.mutexes in
     let stands = entry_inside p.objects.mutexes.table id k at in
     let some = some_caller p.base t try in
-    lock_if mode p t id timeout k (k.owner == 0) refl settled bounded try places none one (omega (arith, few, stands)) at (one_of_some t some)
+    lock_if mode p t id timeout k (k.owner == 0) refl settled sound try one (omega (arith, few, stands)) at (one_of_some t some)
