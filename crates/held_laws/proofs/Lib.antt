@@ -1,4 +1,3 @@
 pub mod DeviceMails
 pub mod Mails
-pub mod Asks
 pub mod Pools

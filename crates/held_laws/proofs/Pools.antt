@@ -1,143 +1,212 @@
--- A serving of any kind leaves live blocks apart, and whoever waits for a variable pool asks for some bytes still.
-use Rattle.std.proofs.Common.{◌≡◌, ℕ, zero, suc, ◌≤◌, List, [], ◌∷◌, Option, Some, None, length, refl, sym, subst}
+-- The live blocks of variable pools lie apart in every state that a machine comes to: each call and each serving leaves them so,
+-- since whoever waits for a variable pool has asked for some bytes.
+use Rattle.std.proofs.Common.{◌≡◌, ℕ, ◌≤◌, ◌<◌, true, List, [], ◌∷◌, Option, Some, None, length, refl, subst, arith}
 use Rattle.std.specs.Option.{option_map}
-use Rattle.std.proofs.lemmas.List.{length-set}
+use Rattle.std.specs.Prelude.{drop}
+use Rattle.tk_types.specs.declared.run.Mode.{Mode}
+use Rattle.tk_types.specs.declared.run.Mode.TheVariants as modes
+use Rattle.tk_types.specs.declared.script.Script.{Script}
+use Rattle.kernel_model.specs.Bodies.Statements.{IsRunnable}
+use Rattle.kernel_model.specs.Tasks.Base.{waits_for}
 use Rattle.kernel_model.specs.SemFlags.Tables.{serve_sem_flag}
+use Rattle.kernel_lemmas.proofs.Tables.{entry_each, entry_same}
 use Rattle.object_model.specs.Mutexes.Tables.{serve_mutexes}
 use Rattle.object_model.specs.Mails.Boxes.{serve_mailboxes}
 use Rattle.object_model.specs.Mails.Buffers.{serve_buffers}
-use Rattle.object_model.specs.Pools.Tables.{FixedPool, VariablePool, Pools, PoolParts, fixed_at, size_of, variable_at}
-use Rattle.object_model.specs.Pools.Fixed.{fixed_serves, fixed_waiters, free_block, serve_fixed, serve_fixed_at, serve_fixed_pools}
-use Rattle.object_model.specs.Pools.Variable.{block_given, place_in, serve_variable, serve_variable_at, serve_variable_pools, variable_serves, variable_waiters}
+use Rattle.object_model.specs.Pools.Tables.{VariablePool, Pools, PoolParts, size_of, variable_at, variable_object, with_variable}
+use Rattle.object_model.specs.Pools.Fixed.{serve_fixed_pools}
+use Rattle.object_model.specs.Pools.Variable.{block_given, insert_block, place_in, serve_variable, serve_variable_at, serve_variable_pools, variable_serves, variable_waiters}
 use Rattle.device_model.specs.Devices.Servings.{serve_acceptances, serve_closes, serve_endings, serve_suspension}
+use Rattle.machine_model.specs.Events.Settle.{handed}
+use Rattle.machine_model.specs.Runs.Reached.{Move, state_after}
+use Rattle.machine_model.specs.Runs.Trace.{start}
 use Rattle.machine_model.specs.States.Objects.{Parts, dev_parts, first_serving, mail_parts, pool_parts, serve_object, with_devices, with_mails, with_mutexes, with_pools, with_sem_flags}
-use Rattle.mail_laws.proofs.Waits.{of_first}
-use Rattle.pool_laws.specs.Blocks.{AllLieApart}
-use Rattle.pool_laws.proofs.Apart.{fixed_apart}
-use Rattle.machine_lemmas.proofs.Servings.{FewDevices}
-use Rattle.held_laws.proofs.Asks.{AllAsk, served_asks, variable_apart}
+use Rattle.machine_model.specs.States.State.{parts_of, state_start}
+use Rattle.mail_laws.proofs.Waits.{first_waits}
+use Rattle.pool_laws.specs.Blocks.{AllLieApart, LieApart, LieApartIn}
+use Rattle.pool_laws.proofs.Apart.{call_apart, fixed_apart, start_apart}
+use Rattle.pool_laws.proofs.Placing.{joined}
+use Rattle.machine_lemmas.proofs.Finding.{first_from}
+use Rattle.machine_lemmas.proofs.Reached.{start_has}
+use Rattle.table_lemmas.proofs.ShortPools.{PoolsShort, fixed_served_short, pool_calls_short, variable_served_short}
+use Rattle.table_lemmas.proofs.Slots.{IfServed}
+use Rattle.ask_lemmas.proofs.ReachedAsked.{HasAsked, asks_are_kept, start_asked}
+use Rattle.ask_lemmas.proofs.WholeWalk.{IsKeptWhole, reached_whole}
 
--- ---- what servings leave
+-- ---- a serving of a variable pool
 
--- the sizes that tasks asked for stay, and the number of places for variable pools
-record Stays (p q : PoolParts) : Type 0 where
-  sizes : q.table.sizes ≡ p.table.sizes
-  places : length q.table.variable ≡ length p.table.variable
+-- each task that waits for a variable pool has asked for some bytes
+abbrev AskForBytes : PoolParts → Type 0
+AskForBytes p = (id t : ℕ) → 1 ≤ id → id ≤ 64 → waits_for p.base (variable_object id) t ≡ true → 0 < size_of p.table t
 
-StaysIf : PoolParts → Option PoolParts → Type 0
-StaysIf p None = Unit {0}
-StaysIf p (Some q) = Stays p q
+ApartIf : Option PoolParts → Type 0
+ApartIf None = Unit {0}
+ApartIf (Some q) = AllLieApart q.table
 
-of_some : (p : PoolParts) (o : Option PoolParts) (q : PoolParts) → StaysIf p o → o ≡ Some q → Stays p q
-unfolding StaysIf
-of_some p None q stays is = absurd (cc is)
-of_some p (Some now) q stays is = let same : now ≡ q = cc is in subst (Stays p) same stays
+apart_there : (o : Option PoolParts) (q : PoolParts) → ApartIf o → o ≡ Some q → AllLieApart q.table
+unfolding ApartIf
+apart_there None q apart is = absurd (cc is)
+apart_there (Some now) q apart is = let same : now ≡ q = cc is in subst (λ (parts : PoolParts). AllLieApart parts.table) same apart
 
-fixed_case : (p : PoolParts) (id : ℕ) (k : FixedPool) (waiters : List ℕ) (number : ℕ) → StaysIf p (fixed_serves p id k waiters number)
-unfolding StaysIf
-fixed_case p id k [] number = tt
-fixed_case p id k (t ∷ ts) zero = tt
-fixed_case p id k (t ∷ ts) (suc before) = record { sizes = refl; places = refl }
+placed_apart : (m : Pools) (id : ℕ) (k : VariablePool) (n offset : ℕ) → AllLieApart m → variable_at m id ≡ Some k → 0 < n → place_in k n ≡ Some offset →
+    AllLieApart (with_variable m id (Some (record k { blocks = insert_block (record { offset = offset; size = n }) k.blocks })))
+placed_apart m id k n offset apart at some is =
+    let before : LieApart k = subst LieApartIn at (apart id) in
+    let now = joined 0 k.size n offset k.blocks before some is in
+    entry_each (λ j (o : Option VariablePool). LieApartIn o) m.variable id _ (entry_same LieApartIn m.variable id _ now tt) (λ j other. apart j)
 
-fixed_slot : (p : PoolParts) (id : ℕ) (slot : Option FixedPool) → StaysIf p (serve_fixed_at p id slot)
-unfolding StaysIf
-fixed_slot p id None = tt
-fixed_slot p id (Some k) = fixed_case p id k (fixed_waiters p.base k id) (free_block k)
+given_apart : (p : PoolParts) (id : ℕ) (k : VariablePool) (t : ℕ) (place : Option ℕ) → AllLieApart p.table → variable_at p.table id ≡ Some k → 0 < size_of p.table t →
+    place_in k (size_of p.table t) ≡ place → ApartIf (block_given p id k t place)
+unfolding ApartIf
+given_apart p id k t None apart at some is = tt
+given_apart p id k t (Some offset) apart at some is = placed_apart p.table id k (size_of p.table t) offset apart at some is
 
-fixed_one : (p q : PoolParts) (id : ℕ) → serve_fixed p id ≡ Some q → Stays p q
-unfolding serve_fixed
-fixed_one p q id is = of_some p (serve_fixed_at p id (fixed_at p.table id)) q (fixed_slot p id (fixed_at p.table id)) is
+case_apart : (p : PoolParts) (id : ℕ) (k : VariablePool) (waiters : List ℕ) → AllLieApart p.table → AskForBytes p → 1 ≤ id → id ≤ 64 →
+    variable_at p.table id ≡ Some k → variable_waiters p.base k id ≡ waiters → ApartIf (variable_serves p id k waiters)
+unfolding ApartIf
+case_apart p id k [] apart asks least most at stand = tt
+case_apart p id k (t ∷ ts) apart asks least most at stand =
+    given_apart p id k t (place_in k (size_of p.table t)) apart at (asks id t least most (first_waits k.order p.base (variable_object id) t ts stand)) refl
 
-fixed_stays : (p q : PoolParts) → serve_fixed_pools p ≡ Some q → Stays p q
-unfolding serve_fixed_pools
-fixed_stays p q is = of_first (Stays p) (serve_fixed p) _ q (λ id. fixed_one p q id) is
+slot_apart : (p : PoolParts) (id : ℕ) (slot : Option VariablePool) → AllLieApart p.table → AskForBytes p → 1 ≤ id → id ≤ 64 → variable_at p.table id ≡ slot →
+    ApartIf (serve_variable_at p id slot)
+unfolding ApartIf
+slot_apart p id None apart asks least most at = tt
+slot_apart p id (Some k) apart asks least most at = case_apart p id k (variable_waiters p.base k id) apart asks least most at refl
 
-given_case : (p : PoolParts) (id : ℕ) (k : VariablePool) (t : ℕ) (place : Option ℕ) → StaysIf p (block_given p id k t place)
-unfolding StaysIf
-given_case p id k t None = tt
-given_case p id k t (Some offset) = record { sizes = refl; places = length-set p.table.variable id _ }
-
-variable_case : (p : PoolParts) (id : ℕ) (k : VariablePool) (waiters : List ℕ) → StaysIf p (variable_serves p id k waiters)
-unfolding StaysIf
-variable_case p id k [] = tt
-variable_case p id k (t ∷ ts) = given_case p id k t (place_in k (size_of p.table t))
-
-variable_slot : (p : PoolParts) (id : ℕ) (slot : Option VariablePool) → StaysIf p (serve_variable_at p id slot)
-unfolding StaysIf
-variable_slot p id None = tt
-variable_slot p id (Some k) = variable_case p id k (variable_waiters p.base k id)
-
-variable_one : (p q : PoolParts) (id : ℕ) → serve_variable p id ≡ Some q → Stays p q
+one_apart : (p q : PoolParts) (id : ℕ) → AllLieApart p.table → AskForBytes p → 1 ≤ id → id ≤ 64 → serve_variable p id ≡ Some q → AllLieApart q.table
 unfolding serve_variable
-variable_one p q id is = of_some p (serve_variable_at p id (variable_at p.table id)) q (variable_slot p id (variable_at p.table id)) is
+one_apart p q id apart asks least most served =
+    apart_there (serve_variable_at p id (variable_at p.table id)) q (slot_apart p id (variable_at p.table id) apart asks least most refl) served
 
-variable_stays : (p q : PoolParts) → serve_variable_pools p ≡ Some q → Stays p q
+dropped_length : {A : Type 0} → (xs : List A) → length xs ≤ 65 → length (drop 1 xs) ≤ 64
+dropped_length [] most = omega arith
+dropped_length (x ∷ xs) most = omega (arith, most)
+
+-- it leaves live blocks apart, where there are at most 64 such pools
+variable_apart : (p q : PoolParts) → length p.table.variable ≤ 65 → AllLieApart p.table → AskForBytes p → serve_variable_pools p ≡ Some q → AllLieApart q.table
 unfolding serve_variable_pools
-variable_stays p q is = of_first (Stays p) (serve_variable p) _ q (λ id. variable_one p q id) is
+variable_apart p q few apart asks served =
+    let from = first_from (serve_variable p) q (drop 1 p.table.variable) served in
+    let most = dropped_length p.table.variable few in
+    let greatest = from.greatest in
+    one_apart p q from.id apart asks from.least (omega (arith, most, greatest)) from.at
 
 -- ---- servings of all kinds
 
--- what holds of variable pools and of whoever waits for one
-pub record PoolsHold (p : Parts) : Type 0 where
-  pub few : length p.objects.pools.variable ≤ 65
-  pub apart : AllLieApart p.objects.pools
-  pub asks : AllAsk p.objects.pools.sizes p.base
-
--- what a serving leaves of the table of pools
-record TableHolds (p : Parts) (m : Pools) : Type 0 where
-  few : length m.variable ≤ 65
+-- what holds of the table of pools: it has no more slots than pools have numbers, and live blocks lie apart
+record TableHolds (m : Pools) : Type 0 where
+  short : PoolsShort m
   apart : AllLieApart m
-  sizes : m.sizes ≡ p.objects.pools.sizes
 
-After : Parts → Option Parts → Type 0
-After p next = (q : Parts) → next ≡ Some q → TableHolds p q.objects.pools
+-- and beside it each task that waits has asked for something that fits
+record PoolsHold (p : Parts) : Type 0 where
+  asked : HasAsked p
+  table : TableHolds p.objects.pools
 
-mapped_holds : {A : Type 0} → (p : Parts) (put : A → Parts) (served : Option A) → ((l : A) → served ≡ Some l → TableHolds p (put l).objects.pools) → After p (option_map put served)
+After : Option Parts → Type 0
+After next = (q : Parts) → next ≡ Some q → TableHolds q.objects.pools
+
+mapped_holds : {A : Type 0} → (put : A → Parts) (served : Option A) → ((l : A) → served ≡ Some l → TableHolds (put l).objects.pools) → After (option_map put served)
 unfolding After
-mapped_holds p put None each q is = absurd (cc is)
-mapped_holds p put (Some l) each q is = let e : put l ≡ q = cc is in subst (λ (it : Parts). TableHolds p it.objects.pools) e (each l refl)
+mapped_holds put None each q is = absurd (cc is)
+mapped_holds put (Some l) each q is = let e : put l ≡ q = cc is in subst (λ (it : Parts). TableHolds it.objects.pools) e (each l refl)
 
-two_hold : (p : Parts) (here next : Option Parts) → After p here → After p next → After p (elim here as (λ _. Option Parts) [ Some served ↦ Some served | None ↦ next ])
-two_hold p (Some served) next first later = first
-two_hold p None next first later = later
+two_hold : (here next : Option Parts) → After here → After next → After (elim here as (λ _. Option Parts) [ Some served ↦ Some served | None ↦ next ])
+two_hold (Some served) next first later = first
+two_hold None next first later = later
 
-none_holds : (p : Parts) → After p None
+none_holds : After None
 unfolding After
-none_holds p q is = absurd (cc is)
+none_holds q is = absurd (cc is)
 
-fixed_holds : (p : Parts) (l : PoolParts) → PoolsHold p → serve_fixed_pools (pool_parts p) ≡ Some l → TableHolds p l.table
-fixed_holds p l has is =
-    let stays = fixed_stays (pool_parts p) l is in
-    record { few = subst (λ n. n ≤ 65) (sym stays.places) has.few; apart = fixed_apart (pool_parts p) l has.apart is; sizes = stays.sizes }
+short_there : (q : PoolParts) (found : Option PoolParts) → found ≡ Some q → IfServed (λ (l : PoolParts). PoolsShort l.table) found → PoolsShort q.table
+short_there q None is short = absurd (cc is)
+short_there q (Some now) is short = let same : now ≡ q = cc is in subst (λ (l : PoolParts). PoolsShort l.table) same short
 
-variable_holds : (p : Parts) (l : PoolParts) → PoolsHold p → serve_variable_pools (pool_parts p) ≡ Some l → TableHolds p l.table
-variable_holds p l has is =
-    let stays = variable_stays (pool_parts p) l is in
-    record { few = subst (λ n. n ≤ 65) (sym stays.places) has.few; apart = variable_apart (pool_parts p) l has.few has.apart has.asks is; sizes = stays.sizes }
+fixed_holds : (p : Parts) (l : PoolParts) → PoolsHold p → serve_fixed_pools (pool_parts p) ≡ Some l → TableHolds l.table
+fixed_holds p l has is = record {
+  short = short_there l (serve_fixed_pools (pool_parts p)) is (fixed_served_short (pool_parts p) has.table.short);
+  apart = fixed_apart (pool_parts p) l has.table.apart is;
+}
 
-served_table : (p : Parts) → PoolsHold p → After p (serve_object p)
+variable_holds : (p : Parts) (l : PoolParts) → PoolsHold p → serve_variable_pools (pool_parts p) ≡ Some l → TableHolds l.table
+variable_holds p l has is = record {
+  short = short_there l (serve_variable_pools (pool_parts p)) is (variable_served_short (pool_parts p) has.table.short);
+  apart = variable_apart (pool_parts p) l has.table.short.variable has.table.apart has.asked.asked.sizes is;
+}
+
+served_table : (p : Parts) → PoolsHold p → After (serve_object p)
 unfolding serve_object first_serving
 served_table p has =
-    let same : TableHolds p p.objects.pools = record { few = has.few; apart = has.apart; sizes = refl } in
-    two_hold p _ _ (mapped_holds p (with_sem_flags p) (serve_sem_flag p.base p.objects.sem_flags) (λ l is. same))
-    (two_hold p _ _ (mapped_holds p (with_mails p) (serve_mailboxes (mail_parts p)) (λ l is. same))
-    (two_hold p _ _ (mapped_holds p (with_mutexes p) (serve_mutexes p.base p.objects.mutexes) (λ l is. same))
-    (two_hold p _ _ (mapped_holds p (with_mails p) (serve_buffers (mail_parts p)) (λ l is. same))
-    (two_hold p _ _ (mapped_holds p (with_pools p) (serve_fixed_pools (pool_parts p)) (λ l is. fixed_holds p l has is))
-    (two_hold p _ _ (mapped_holds p (with_pools p) (serve_variable_pools (pool_parts p)) (λ l is. variable_holds p l has is))
-    (two_hold p _ _ (mapped_holds p (with_devices p) (serve_acceptances (dev_parts p)) (λ l is. same))
-    (two_hold p _ _ (mapped_holds p (with_devices p) (serve_endings (dev_parts p)) (λ l is. same))
-    (two_hold p _ _ (mapped_holds p (with_devices p) (serve_closes (dev_parts p)) (λ l is. same))
-    (two_hold p _ _ (mapped_holds p (with_devices p) (serve_suspension (dev_parts p)) (λ l is. same))
-    (none_holds p))))))))))
+    two_hold _ _ (mapped_holds (with_sem_flags p) (serve_sem_flag p.base p.objects.sem_flags) (λ l is. has.table))
+    (two_hold _ _ (mapped_holds (with_mails p) (serve_mailboxes (mail_parts p)) (λ l is. has.table))
+    (two_hold _ _ (mapped_holds (with_mutexes p) (serve_mutexes p.base p.objects.mutexes) (λ l is. has.table))
+    (two_hold _ _ (mapped_holds (with_mails p) (serve_buffers (mail_parts p)) (λ l is. has.table))
+    (two_hold _ _ (mapped_holds (with_pools p) (serve_fixed_pools (pool_parts p)) (λ l is. fixed_holds p l has is))
+    (two_hold _ _ (mapped_holds (with_pools p) (serve_variable_pools (pool_parts p)) (λ l is. variable_holds p l has is))
+    (two_hold _ _ (mapped_holds (with_devices p) (serve_acceptances (dev_parts p)) (λ l is. has.table))
+    (two_hold _ _ (mapped_holds (with_devices p) (serve_endings (dev_parts p)) (λ l is. has.table))
+    (two_hold _ _ (mapped_holds (with_devices p) (serve_closes (dev_parts p)) (λ l is. has.table))
+    (two_hold _ None (mapped_holds (with_devices p) (serve_suspension (dev_parts p)) (λ l is. has.table))
+    none_holds)))))))))
 
--- any serving keeps it
-pub served_holds : (p q : Parts) → FewDevices p → serve_object p ≡ Some q → PoolsHold p → PoolsHold q
+-- ---- every event
+
+handed_table : (mode : Mode) (p : Parts) → TableHolds p.objects.pools → TableHolds (handed mode p).objects.pools
+handed_table modes.Sync p has = has
+handed_table modes.Free p has = has
+
+-- a serving leaves it so
+after_serving : (p q : Parts) → serve_object p ≡ Some q → PoolsHold p → TableHolds q.objects.pools
 unfolding After
-served_holds p q few is has =
-    let table = served_table p has q is in
-    record {
-      few = table.few;
-      apart = table.apart;
-      asks = subst (λ (sizes : List ℕ). AllAsk sizes q.base) (sym table.sizes) (served_asks p.objects.pools.sizes p q few is has.asks);
-    }
+after_serving p q is has = served_table p has q is
+
+pools_are_kept : IsKeptWhole PoolsHold
+pools_are_kept = record {
+  long = λ p has. asks_are_kept.long p has.asked;
+  few = λ p has. asks_are_kept.few p has.asked;
+  task_calls = λ p who c has. record { asked = asks_are_kept.task_calls p who c has.asked; table = has.table };
+  sem_flag_calls = λ p who c has. record { asked = asks_are_kept.sem_flag_calls p who c has.asked; table = has.table };
+  mutex_calls = λ p who c has. record { asked = asks_are_kept.mutex_calls p who c has.asked; table = has.table };
+  mail_calls = λ p who c has. record { asked = asks_are_kept.mail_calls p who c has.asked; table = has.table };
+  pool_calls = λ p who c has. record {
+    asked = asks_are_kept.pool_calls p who c has.asked;
+    table = record { short = pool_calls_short (pool_parts p) who c has.table.short; apart = call_apart (pool_parts p) who c has.table.apart };
+  };
+  time_calls = λ p c has. record { asked = asks_are_kept.time_calls p c has.asked; table = has.table };
+  context_calls = λ p who c has. record { asked = asks_are_kept.context_calls p who c has.asked; table = has.table };
+  device_calls = λ p who c has. record { asked = asks_are_kept.device_calls p who c has.asked; table = has.table };
+  left = λ p t all has. record { asked = asks_are_kept.left p t all has.asked; table = has.table };
+  freed = λ p t m is has. record { asked = asks_are_kept.freed p t m is has.asked; table = has.table };
+  deleted = λ p t has. record { asked = asks_are_kept.deleted p t has.asked; table = has.table };
+  refreshed = λ p t priority has. record { asked = asks_are_kept.refreshed p t priority has.asked; table = has.table };
+  served = λ p q few is has. record { asked = asks_are_kept.served p q few is has.asked; table = after_serving p q is has };
+  handed = λ mode p has. record { asked = asks_are_kept.handed mode p has.asked; table = handed_table mode p has.table };
+  handed_first = λ p has. record { asked = asks_are_kept.handed_first p has.asked; table = has.table };
+  arrived = λ p e q is has. record { asked = asks_are_kept.arrived p e q is has.asked; table = has.table };
+  released = λ p t answer has. record { asked = asks_are_kept.released p t answer has.asked; table = has.table };
+  again = λ p what has. record { asked = asks_are_kept.again p what has.asked; table = has.table };
+  taken = λ p has. record { asked = asks_are_kept.taken p has.asked; table = has.table };
+  advanced = λ p has. record { asked = asks_are_kept.advanced p has.asked; table = has.table };
+  flagged = λ p flags has. record { asked = asks_are_kept.flagged p flags has.asked; table = has.table };
+  turned = λ p cur has. record { asked = asks_are_kept.turned p cur has.asked; table = has.table };
+  emptied = λ p has. record { asked = asks_are_kept.emptied p has.asked; table = has.table };
+  written = λ p memory long has. record { asked = asks_are_kept.written p memory long has.asked; table = has.table };
+}
+
+-- ---- every state that a machine comes to
+
+first_table : (script : Script) → TableHolds (parts_of (state_start script)).objects.pools
+unfolding state_start
+first_table script = record { short = record { fixed = omega arith; variable = omega arith }; apart = start_apart }
+
+start_holds : (script : Script) → IsRunnable script → PoolsHold (parts_of (start script).state)
+start_holds script runnable = record {
+  asked = start_asked script runnable;
+  table = start_has (λ (p : Parts). TableHolds p.objects.pools) (λ p cur has. has) script (first_table script);
+}
+
+-- the live blocks of each variable pool lie apart
+pub reached_apart : (script : Script) (mode : Mode) (budget : ℕ) (moves : List Move) → IsRunnable script → AllLieApart (state_after script mode budget moves).objects.pools
+reached_apart script mode budget moves runnable = (reached_whole PoolsHold pools_are_kept script mode budget moves (start_holds script runnable)).table.apart

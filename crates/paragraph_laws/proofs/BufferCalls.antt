@@ -18,6 +18,7 @@ use Rattle.kernel_model.specs.LawWords.Once.{times}
 use Rattle.kernel_model.specs.Words.Checks.{failed, plain}
 use Rattle.kernel_model.specs.Words.Orders.{entry, insert_behind, to_back, without}
 use Rattle.kernel_model.specs.Tasks.Base.{Base, current, is_waiting, is_waiting_phase, make_wait, release, task_at, waiting_in, waits_for, waits_somewhere}
+use Rattle.kernel_model.specs.SemFlags.Trial.{MayWait}
 use Rattle.kernel_lemmas.proofs.Filters.{left_out}
 use Rattle.kernel_lemmas.proofs.Releases.{release_others}
 use Rattle.kernel_lemmas.proofs.Sorting.{not_here}
@@ -38,7 +39,7 @@ use Rattle.machine_model.specs.Events.Settle.{settle}
 use Rattle.machine_model.specs.States.Objects.{Parts, mail_parts, with_mails}
 use Rattle.machine_lemmas.proofs.Handing.{set_length}
 use Rattle.machine_lemmas.proofs.Settling.{settled_none}
-use Rattle.paragraph_laws.specs.Kept.{IsBounded, after_kept, goes_back, kept_paragraph, settled_after}
+use Rattle.paragraph_laws.specs.Kept.{IsSound, after_kept, goes_back, kept_paragraph, settled_after}
 use Rattle.paragraph_laws.specs.Paragraph.{IsSettled, WaitDone, joins, mail_waits, over_or_waits}
 use Rattle.paragraph_laws.proofs.BufferLoop.{IsServed, on, stays_released}
 use Rattle.paragraph_laws.proofs.BufferSettles.{HasRoom, IsBegun, settles_none, settles_same}
@@ -46,6 +47,7 @@ use Rattle.paragraph_laws.proofs.Goings.{same_stamp}
 use Rattle.paragraph_laws.proofs.Joined.{joined_keeps}
 use Rattle.paragraph_laws.proofs.NearBuffer.{IsNear, IsOwn, IsWaiter, cond_true, not_own, own_no_mutex, waits_apart}
 use Rattle.paragraph_laws.proofs.OneKind.{none_of}
+use Rattle.paragraph_laws.proofs.Settled.{may_try}
 use Rattle.paragraph_laws.proofs.Tables.{stands_none}
 
 -- ---- the caller has joined
@@ -193,10 +195,10 @@ begun_of mode p t id k settled try one at =
     let stands = entry_inside p.objects.mails.buffers id k at in
     record { settled = settled; may = try.may; none = try.no_zero; least = one; most = omega (arith, few, stands) }
 
-room_of : (p : Parts) (t object : ℕ) (order : Order) (timeout : ℤ) (asked : Mails) → IsBounded p → HasRoom p (joined_parts p t object order timeout asked)
-room_of p t object order timeout asked bounded = record {
-  links = bounded.links;
-  slots = subst (λ (n : ℕ). n ≤ 256) (sym (joined_slots p.base t object order timeout)) bounded.slots;
+room_of : (p : Parts) (t object : ℕ) (order : Order) (timeout : ℤ) (asked : Mails) → IsSound p → HasRoom p (joined_parts p t object order timeout asked)
+room_of p t object order timeout asked sound = record {
+  links = sound.links;
+  slots = subst (λ (n : ℕ). n ≤ 256) (sym (joined_slots p.base t object order timeout)) sound.slots;
 }
 
 -- ---- a test that fails
@@ -290,15 +292,15 @@ send_answers mode p t id bytes timeout k left begun try at none served =
     ∙ served)
 
 send_case : (mode : Mode) (p : Parts) (t id : ℕ) (bytes : List ℕ) (timeout : ℤ) (k : MessageBuffer) (next : Option MailParts) → serve_buffer (send_now p t id bytes timeout k) id ≡ next →
-    IsBegun mode p t id → IsBounded p → MayTry p.base t → buffer_at p.objects.mails id ≡ Some k → serve_buffer (mail_parts p) id ≡ None → settle mode p ≡ p →
+    IsBegun mode p t id → IsSound p → MayTry p.base t → buffer_at p.objects.mails id ≡ Some k → serve_buffer (mail_parts p) id ≡ None → settle mode p ≡ p →
     settled_after mode (mail_waits p (send_trial_of (mail_parts p) t id bytes timeout k next))
     ≡ after_kept p t timeout (settle mode (with_mails p (send_now p t id bytes timeout k)))
     (settle mode (joins p t (senders_object id) k.order timeout (record p.objects { mails = asked_to_send p.objects.mails t bytes })))
 unfolding send_now
-send_case mode p t id bytes timeout k None is begun bounded try at none still =
+send_case mode p t id bytes timeout k None is begun sound try at none still =
     unserved_case mode p t id (senders_object id) k.order timeout (asked_to_send p.objects.mails t bytes) begun still
     (near_joined p t id (senders_object id) k.order timeout k (asked_to_send p.objects.mails t bytes) try begun.least (inl refl) at (asked_send p t bytes)) is
-send_case mode p t id bytes timeout k (Some q) is begun bounded try at none still =
+send_case mode p t id bytes timeout k (Some q) is begun sound try at none still =
     let now : MailParts = send_now p t id bytes timeout k in
     let plainly : Parts = settle mode (joins p t (senders_object id) k.order timeout (record p.objects { mails = asked_to_send p.objects.mails t bytes })) in
     let late : MailDone = waits_or_ends (mail_parts p) t (senders_object id) k.order timeout (asked_to_send p.objects.mails t bytes) in
@@ -307,7 +309,7 @@ send_case mode p t id bytes timeout k (Some q) is begun bounded try at none stil
     ap (λ found. settled_after mode (mail_waits p (option_map_or returned found late))) served.ended
     ∙ ap (λ into. settled_after mode (record { parts = with_mails p (record (on p t q) { table = record q.table { sending = p.objects.mails.sending; into = into } }); outcome = Returned (plain (pos 0)) }))
     (leaves_asked now q id is).into
-    ∙ served_case mode p t id timeout (plain (pos 0)) now q plainly begun (room_of p t (senders_object id) k.order timeout (asked_to_send p.objects.mails t bytes) bounded)
+    ∙ served_case mode p t id timeout (plain (pos 0)) now q plainly begun (room_of p t (senders_object id) k.order timeout (asked_to_send p.objects.mails t bytes) sound)
     (near_joined p t id (senders_object id) k.order timeout k (asked_to_send p.objects.mails t bytes) try begun.least (inl refl) at (asked_send p t bytes)) is served
 
 each_buffer : (p : MailParts) (id : ℕ) (k : MessageBuffer) → 1 ≤ id → serve_buffers p ≡ None → buffer_at p.table id ≡ Some k → serve_buffer p id ≡ None
@@ -319,15 +321,16 @@ settled_still : (mode : Mode) (p : Parts) → IsSettled mode p → settle mode p
 settled_still mode p is = settled_none mode p is.up_to_date is.unserved is.given
 
 -- a send to a message buffer, with all that settles after it, does what the paragraph says
-pub send_call_is_paragraph : (mode : Mode) (p : Parts) (t id : ℕ) (bytes : List ℕ) (timeout : ℤ) (k : MessageBuffer) → IsSettled mode p → IsBounded p → MayTry p.base t → 1 ≤ id →
+pub send_call_is_paragraph : (mode : Mode) (p : Parts) (t id : ℕ) (bytes : List ℕ) (timeout : ℤ) (k : MessageBuffer) → IsSettled mode p → IsSound p → MayWait p.base t → 1 ≤ id →
     buffer_at p.objects.mails id ≡ Some k → t < length p.objects.mails.sending →
     settled_after mode (mail_waits p (sent_to_buffer (mail_parts p) t id bytes timeout (Some k)))
     ≡ kept_paragraph mode p t (senders_object id) k.order timeout (record p.objects { mails = asked_to_send p.objects.mails t bytes })
 unfolding kept_paragraph send_trial send_now
-send_call_is_paragraph mode p t id bytes timeout k settled bounded try one at inside =
+send_call_is_paragraph mode p t id bytes timeout k settled sound may one at inside =
+    let try = may_try p t sound may in
     let none = each_buffer (mail_parts p) id k one (none_of p settled.unserved).buffers at in
     ap (λ done. settled_after mode (mail_waits p done)) (send_is_trial (mail_parts p) t id bytes timeout k try at inside none)
-    ∙ send_case mode p t id bytes timeout k (serve_buffer (send_now p t id bytes timeout k) id) refl (begun_of mode p t id k settled try one at) bounded try at none (settled_still mode p settled)
+    ∙ send_case mode p t id bytes timeout k (serve_buffer (send_now p t id bytes timeout k) id) refl (begun_of mode p t id k settled try one at) sound try at none (settled_still mode p settled)
 
 -- ---- a receive
 
@@ -403,15 +406,15 @@ receive_answers mode p t id address timeout k left try at none served =
     ∙ served)
 
 receive_case : (mode : Mode) (p : Parts) (t id address : ℕ) (timeout : ℤ) (k : MessageBuffer) (next : Option MailParts) → serve_buffer (receive_now p t id address timeout) id ≡ next →
-    IsBegun mode p t id → IsBounded p → MayTry p.base t → buffer_at p.objects.mails id ≡ Some k → serve_buffer (mail_parts p) id ≡ None → settle mode p ≡ p →
+    IsBegun mode p t id → IsSound p → MayTry p.base t → buffer_at p.objects.mails id ≡ Some k → serve_buffer (mail_parts p) id ≡ None → settle mode p ≡ p →
     settled_after mode (mail_waits p (receive_trial_of (mail_parts p) t id address timeout next))
     ≡ after_kept p t timeout (settle mode (with_mails p (receive_now p t id address timeout)))
     (settle mode (joins p t (receivers_object id) Fifo timeout (record p.objects { mails = asked_into p.objects.mails t address })))
 unfolding receive_now
-receive_case mode p t id address timeout k None is begun bounded try at none still =
+receive_case mode p t id address timeout k None is begun sound try at none still =
     unserved_case mode p t id (receivers_object id) Fifo timeout (asked_into p.objects.mails t address) begun still
     (near_joined p t id (receivers_object id) Fifo timeout k (asked_into p.objects.mails t address) try begun.least (inr refl) at (asked_receive p t address)) is
-receive_case mode p t id address timeout k (Some q) is begun bounded try at none still =
+receive_case mode p t id address timeout k (Some q) is begun sound try at none still =
     let now : MailParts = receive_now p t id address timeout in
     let plainly : Parts = settle mode (joins p t (receivers_object id) Fifo timeout (record p.objects { mails = asked_into p.objects.mails t address })) in
     let late : MailDone = waits_or_ends (mail_parts p) t (receivers_object id) Fifo timeout (asked_into p.objects.mails t address) in
@@ -421,16 +424,17 @@ receive_case mode p t id address timeout k (Some q) is begun bounded try at none
     ap (λ found. settled_after mode (mail_waits p (option_map_or returned found late))) is_answered.served.ended
     ∙ ap (λ sending. settled_after mode (record { parts = with_mails p (record (on p t q) { table = record q.table { sending = sending; into = p.objects.mails.into } }); outcome = Returned answer }))
     (leaves_asked now q id is).sending
-    ∙ served_case mode p t id timeout answer now q plainly begun (room_of p t (receivers_object id) Fifo timeout (asked_into p.objects.mails t address) bounded)
+    ∙ served_case mode p t id timeout answer now q plainly begun (room_of p t (receivers_object id) Fifo timeout (asked_into p.objects.mails t address) sound)
     (near_joined p t id (receivers_object id) Fifo timeout k (asked_into p.objects.mails t address) try begun.least (inr refl) at (asked_receive p t address)) is is_answered.served
 
 -- a receive from a message buffer, with all that settles after it, does what the paragraph says
-pub receive_call_is_paragraph : (mode : Mode) (p : Parts) (t id address : ℕ) (timeout : ℤ) (k : MessageBuffer) → IsSettled mode p → IsBounded p → MayTry p.base t → 1 ≤ id →
+pub receive_call_is_paragraph : (mode : Mode) (p : Parts) (t id address : ℕ) (timeout : ℤ) (k : MessageBuffer) → IsSettled mode p → IsSound p → MayWait p.base t → 1 ≤ id →
     buffer_at p.objects.mails id ≡ Some k → t < length p.objects.mails.into →
     settled_after mode (mail_waits p (received_from_buffer (mail_parts p) t id address timeout (Some k)))
     ≡ kept_paragraph mode p t (receivers_object id) Fifo timeout (record p.objects { mails = asked_into p.objects.mails t address })
 unfolding kept_paragraph receive_trial receive_now
-receive_call_is_paragraph mode p t id address timeout k settled bounded try one at inside =
+receive_call_is_paragraph mode p t id address timeout k settled sound may one at inside =
+    let try = may_try p t sound may in
     let none = each_buffer (mail_parts p) id k one (none_of p settled.unserved).buffers at in
     ap (λ done. settled_after mode (mail_waits p done)) (receive_is_trial (mail_parts p) t id address timeout k try at inside none)
-    ∙ receive_case mode p t id address timeout k (serve_buffer (receive_now p t id address timeout) id) refl (begun_of mode p t id k settled try one at) bounded try at none (settled_still mode p settled)
+    ∙ receive_case mode p t id address timeout k (serve_buffer (receive_now p t id address timeout) id) refl (begun_of mode p t id k settled try one at) sound try at none (settled_still mode p settled)

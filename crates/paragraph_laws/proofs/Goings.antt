@@ -78,7 +78,7 @@ rows_swap (x ∷ xs) zero (suc t) first second apart = refl
 rows_swap (x ∷ xs) (suc v) zero first second apart = refl
 rows_swap (x ∷ xs) (suc v) (suc t) first second apart = ap (λ rest. x ∷ rest) (rows_swap xs v t first second (λ e. apart (ap (λ n. suc n) e)))
 
-abbrev others : ℕ → List Release → List Release
+abbrev pub others : ℕ → List Release → List Release
 others t released = filter (λ (r : Release). not (r.task == t)) released
 
 one_out : (t v : ℕ) (answer : Answer) → (v ≡ t → ⊥) → others t (record { task = v; answer = answer } ∷ []) ≡ record { task = v; answer = answer } ∷ []
@@ -92,7 +92,8 @@ recorded_out t v answer released apart =
 
 -- ---- the end of another task's wait
 
-ended : Base → ℕ → Task → Answer → Base
+-- a task whose wait has ended
+unfoldable pub ended : Base → ℕ → Task → Answer → Base
 ended b u k result = record (with_task (drop_wait b u) u (record k { phase = Ready })) {
   order = back_unless_suspended u k.suspensions b.order;
   released = recorded u result b.released;
@@ -102,7 +103,8 @@ when : {A : Type 0} → (test : Bool) (x y : A) → test ≡ true → cond test 
 when true x y is = refl
 when false x y is = absurd (cc is)
 
-release_is : (b : Base) (u : ℕ) (k : Task) (result : Answer) → task_at b u ≡ Some k → is_waiting_phase k.phase ≡ true → release b u result ≡ ended b u k result
+-- the end of a wait, written out
+pub release_is : (b : Base) (u : ℕ) (k : Task) (result : Answer) → task_at b u ≡ Some k → is_waiting_phase k.phase ≡ true → release b u result ≡ ended b u k result
 unfolding ended
 release_is b u k result at waits = entry_at (λ c. c ≡ ended b u k result) (task_at b u) k b _ at (when (is_waiting_phase k.phase) (ended b u k result) b waits)
 
@@ -224,7 +226,7 @@ row_same None = refl
 row_same (Some k) = refl
 
 -- the caller with a current priority, which it had or hasn't had
-abbrev goes_as : Base → Base → ℕ → ℕ → Bool → Base
+abbrev pub goes_as : Base → Base → ℕ → ℕ → Bool → Base
 goes_as old new t priority same = record new {
   tasks = slice_set new.tasks t (row_with priority (task_at old t));
   order = cond same (place_back t new.order) (without 0 new.order);

@@ -83,12 +83,14 @@ taken_written from zero (Some other ∷ slots) k now at = refl
 taken_written from (suc place) (None ∷ slots) k now at = taken_written (from + 1) place slots k now at
 taken_written from (suc place) (Some other ∷ slots) k now at = ap (λ ids. from ∷ ids) (taken_written (from + 1) place slots k now at)
 
-ids_written : (t : ℕ) (tasks : List (Option Task)) (k now : Task) → entry tasks t ≡ Some k → taken_from 1 (drop 1 (slice_set tasks t (Some now))) ≡ taken_from 1 (drop 1 tasks)
+-- the IDs that are taken are the same
+pub ids_written : (t : ℕ) (tasks : List (Option Task)) (k now : Task) → entry tasks t ≡ Some k → taken_from 1 (drop 1 (slice_set tasks t (Some now))) ≡ taken_from 1 (drop 1 tasks)
 ids_written t [] k now at = absurd (cc at)
 ids_written zero (slot ∷ tasks) k now at = refl
 ids_written (suc place) (slot ∷ tasks) k now at = taken_written 1 place tasks k now at
 
-same_at : {A : Type 0} → (of : Option Task → A) (b c : Base) (t : ℕ) (k now : Task) → c.tasks ≡ slice_set b.tasks t (Some now) → task_at b t ≡ Some k →
+-- what a row shows is the same where one is written that shows the same
+pub same_at : {A : Type 0} → (of : Option Task → A) (b c : Base) (t : ℕ) (k now : Task) → c.tasks ≡ slice_set b.tasks t (Some now) → task_at b t ≡ Some k →
     of (Some now) ≡ of (Some k) → (u : ℕ) → of (task_at c u) ≡ of (task_at b u)
 same_at of b c t k now written at same u =
     ap (λ tasks. of (entry tasks u)) written

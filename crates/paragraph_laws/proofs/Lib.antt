@@ -10,6 +10,11 @@ pub mod Settled
 pub mod BufferLoop
 pub mod BufferSettles
 pub mod BufferCalls
+pub mod StillWaits
+pub mod Lending
+pub mod Locking
+pub mod MutexCalls
+pub mod Zeros
 pub mod Pools
 pub mod Boxes
 pub mod SemFlags

@@ -59,7 +59,7 @@ one_row object other None here apart = absurd (cc here)
 one_row object other (Some k) here apart = one_phase object other k.phase here apart
 
 -- it waits for nothing else
-waits_once : (b : Base) (v object other : ℕ) → waits_for b object v ≡ true → (other ≡ object → ⊥) → waits_for b other v ≡ false
+pub waits_once : (b : Base) (v object other : ℕ) → waits_for b object v ≡ true → (other ≡ object → ⊥) → waits_for b other v ≡ false
 waits_once b v object other here apart = one_row object other (task_at b v) here apart
 
 -- a task that waits for nothing is another one

@@ -5,9 +5,11 @@ use Rattle.tk_types.specs.declared.answer.Answer.{Answer}
 use Rattle.tk_types.specs.declared.run.Mode.{Mode}
 use Rattle.tk_types.specs.declared.run.Mode.TheVariants as modes
 use Rattle.tk_types.specs.declared.task.Order.TheVariants.{Fifo}
+use Rattle.kernel_model.specs.SemFlags.Trial.{MayWait}
 use Rattle.kernel_model.specs.Tasks.Base.{fifo_queue, is_waiting, release}
 use Rattle.device_model.specs.Devices.Handing.{hand_over, handed_unless, suspension_object}
 use Rattle.device_model.specs.Devices.Tables.{Devices}
+use Rattle.mail_laws.specs.BufferTrial.{MayTry}
 use Rattle.mail_laws.specs.Trial.{ended_in}
 use Rattle.mail_laws.proofs.Backs.{answered}
 use Rattle.machine_model.specs.Events.Rest.{AreUpToDate, IsAtRest}
@@ -18,6 +20,7 @@ use Rattle.machine_lemmas.proofs.Rest.{HasSettled}
 use Rattle.machine_lemmas.proofs.Settling.{next_served, settled_none}
 use Rattle.mutex_laws.proofs.Resettled.{resettled_same}
 use Rattle.table_lemmas.specs.Short.{AreShort}
+use Rattle.paragraph_laws.specs.Kept.{IsSound}
 use Rattle.paragraph_laws.specs.Paragraph.{IsSettled, after_settling, over_or_waits, returns_to}
 use Rattle.paragraph_laws.proofs.Still.{SameQueue}
 
@@ -28,6 +31,10 @@ has_settled mode p is = record { unserved = is.unserved; up_to_date = is.up_to_d
 -- so have the parts of a state at rest
 pub rest_settled : (mode : Mode) (st : State) → IsAtRest mode st → AreShort st.objects → IsSettled mode (parts_of st)
 rest_settled mode st rest short = record { unserved = rest.unserved; up_to_date = rest.up_to_date; given = rest.given; short = short }
+
+-- a task that may wait may try, as 0 is no task and no release is left
+pub may_try : (p : Parts) (t : ℕ) → IsSound p → MayWait p.base t → MayTry p.base t
+may_try p t is may = record { may = may; no_zero = is.no_task; no_place = is.no_place; none_left = is.none_left }
 
 -- ---- requests that were handed
 
@@ -48,12 +55,14 @@ given_still modes.Free p q same queues is =
 pub refreshed_none : (p : Parts) → AreUpToDate p.base p.objects.mutexes → refreshed p ≡ p
 refreshed_none p is = ap (λ base. record p { base = base }) (resettled_same p.base p.objects.mutexes (λ t least. is.each t least))
 
-served_none : (left : ℕ) (p : Parts) → serve_object p ≡ None → served_within left p ≡ p
+-- where nobody can be served no serving is done
+pub served_none : (left : ℕ) (p : Parts) → serve_object p ≡ None → served_within left p ≡ p
 unfolding served_within
 served_none zero p none = refl
 served_none (suc left) p none = ap (λ next. next_served left p next) none
 
-served_once : (left : ℕ) (p q : Parts) → serve_object p ≡ Some q → served_within (suc left) p ≡ served_within left (refreshed q)
+-- and where somebody can, one is
+pub served_once : (left : ℕ) (p q : Parts) → serve_object p ≡ Some q → served_within (suc left) p ≡ served_within left (refreshed q)
 unfolding served_within
 served_once left p q is = ap (λ next. next_served left p next) is
 

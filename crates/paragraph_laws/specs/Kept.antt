@@ -6,16 +6,19 @@
 --
 -- Others take new stamps meanwhile. So that the caller's old place among the stamps is still to be found, 0, which is no task,
 -- keeps it.
-use Rattle.std.specs.Prelude.{ℕ, ◌≤◌, ◌==◌, not, if◌then◌else◌, ℤ, length, Option, Some, None, filter, slice_set}
+use Rattle.std.specs.Prelude.{◌≡◌, ℕ, ◌≤◌, ◌==◌, not, if◌then◌else◌, ℤ, length, Option, Some, None, filter, slice_set, []}
 use Rattle.std.specs.Option.{option_map_or}
 use Rattle.tk_types.specs.declared.answer.Answer.{Answer}
 use Rattle.tk_types.specs.declared.answer.Outcome.TheVariants.{Returned}
 use Rattle.tk_types.specs.declared.run.Mode.{Mode}
 use Rattle.tk_types.specs.declared.task.Order.{Order}
 use Rattle.tk_types.specs.declared.task.Task.{Task}
+use Rattle.kernel_model.specs.LawWords.Once.{times}
 use Rattle.kernel_model.specs.Words.Orders.{without}
 use Rattle.kernel_model.specs.Tasks.Base.{Base, current, task_at}
+use Rattle.kernel_model.specs.Tasks.Waits.{HavePlaces}
 use Rattle.object_model.specs.Mutexes.Calls.{MutexDone}
+use Rattle.object_model.specs.Mutexes.Tables.{mutex_at}
 use Rattle.mail_laws.specs.BufferTrial.{place_back, joins as joins_queue}
 use Rattle.mail_laws.specs.Trial.{ended_in}
 use Rattle.machine_model.specs.Events.Settle.{settle}
@@ -73,7 +76,13 @@ settled_after mode done = record done { parts = settle mode done.parts }
 
 -- ---- where the law holds
 
--- at most eight devices, in a list that begins with a place that none takes, and 256 slots for tasks
-pub record IsBounded (p : Parts) : Type 0 where
+-- At most eight devices, in a list that begins with a place that none takes, and 256 slots for tasks. No task and no mutex has the
+-- number 0, and 0 has no place among the stamps; each task that waits has its places there; and no release is left to take.
+pub record IsSound (p : Parts) : Type 0 where
   pub links : length p.objects.devices.links ≤ 9
   pub slots : length p.base.tasks ≤ 256
+  pub no_task : task_at p.base 0 ≡ None
+  pub no_place : times 0 p.base.order ≡ 0
+  pub no_mutex : mutex_at p.objects.mutexes 0 ≡ None
+  pub places : HavePlaces p.base
+  pub none_left : p.base.released ≡ []

@@ -32,7 +32,7 @@ use Rattle.table_lemmas.proofs.ShortSemFlags.{SemFlagsShort, sem_flag_calls_shor
 use Rattle.table_lemmas.proofs.Slots.{IfServed}
 
 -- the tables of each family are short, and the slots of tasks as they are
-record AllShort (p : Parts) : Type 0 where
+pub record AllShort (p : Parts) : Type 0 where
   pub sem_flags : SemFlagsShort p.objects.sem_flags
   pub mutexes : MutexesShort p.objects.mutexes
   pub mails : MailsShort p.objects.mails
@@ -61,7 +61,8 @@ with_pools_short p has l kept = record { sem_flags = has.sem_flags; mutexes = ha
 with_devices_short : (p : Parts) → AllShort p → (l : DevParts) → MailsShort l.mails → AllShort (with_devices p l)
 with_devices_short p has l kept = record { sem_flags = has.sem_flags; mutexes = has.mutexes; mails = kept; pools = has.pools }
 
-served_short : (p : Parts) → AllShort p → IfServed AllShort (serve_object p)
+-- a serving leaves them so
+pub served_short : (p : Parts) → AllShort p → IfServed AllShort (serve_object p)
 unfolding serve_object first_serving
 served_short p has =
     two_short _ _ (mapped_short (λ (q : SemFlagParts). SemFlagsShort q.table) (with_sem_flags p) (serve_sem_flag p.base p.objects.sem_flags)
@@ -78,7 +79,8 @@ served_short p has =
     (two_short _ None (mapped_short (λ (q : DevParts). MailsShort q.mails) (with_devices p) (serve_suspension (dev_parts p)) (suspension_short (dev_parts p) has.mails) (with_devices_short p has))
     tt)))))))))
 
-there : (q : Parts) (found : Option Parts) → found ≡ Some q → IfServed AllShort found → AllShort q
+-- what a serving left, where there was one
+pub there : (q : Parts) (found : Option Parts) → found ≡ Some q → IfServed AllShort found → AllShort q
 there q None is kept = absurd (cc is)
 there q (Some r) is kept = let same : r ≡ q = cc is in subst AllShort same kept
 

@@ -1,0 +1,5 @@
+pub mod Counts
+pub mod Views
+pub mod Turns
+pub mod Ends
+pub mod Progress
