@@ -20,7 +20,6 @@ use Rattle.kernel_base.specs.Queues.{behind, next_ready}
 use Rattle.kernel_base.specs.Waiting.{next_waiting, object_of, object_of_phase}
 use Rattle.td_hooks.specs.declared.tasks.TaskList.{TaskList}
 use Rattle.td_hooks.specs.declared.tasks.TaskList.TheVariants as list
-use Rattle.td_hooks.specs.Seen.{StandOnce}
 use Rattle.td_hooks.specs.Tasks.{in_list}
 
 -- ---- who stands in a list
@@ -95,6 +94,11 @@ next_in_ready b priority t there =
     ∙ ap (λ ids. slice_get ids 0) (filter_behind (is_ready_with b priority) t b.order is)
 
 -- ---- how many there are
+
+-- each task stands once at most by its stamp, and once at most by the beginning of its last wait
+pub record StandOnce (b : Base) : Type 0 where
+  pub ranks : IsOnce b.order
+  pub begins : IsOnce b.since
 
 once_queue : (order : Order) (b : Base) (object : ℕ) → StandOnce b → IsOnce (queue order b object)
 once_queue Fifo b object once = once_filter (waits_for b object) b.since once.begins

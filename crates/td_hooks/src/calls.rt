@@ -2,7 +2,7 @@
 
 ghost use Rattle.std.specs.Prelude.{◌≡◌};
 ghost use Rattle.context_model.specs.Hooks.Calls.{hook_call};
-ghost use Rattle.td_hooks.specs.Seen.{StandOnce, seen};
+ghost use Rattle.td_hooks.specs.Seen.{seen};
 
 use crate::hooks::{Hooks, set_hook};
 use crate::listing::{list_existing, list_queue, list_ready};
@@ -23,7 +23,6 @@ pub fn call(
     who: Who,
     call: &HookCall,
 ) -> Outcome
-    requires { StandOnce base.now }
     ensures { hook_call (seen base.now views.now) hooks.old memory.old who call.now ≡ record { hooks = hooks.new; memory = memory.new; outcome = result } }
 {
     match request_of(call) {

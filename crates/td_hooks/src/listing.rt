@@ -6,7 +6,7 @@ ghost use Rattle.context_model.specs.Hooks.Lists.{existing, with_ids};
 ghost use Rattle.context_model.specs.Hooks.Tables.{Hooks};
 ghost use Rattle.td_hooks.specs.Kinds.{exists, greatest, kind_of, object_of};
 ghost use Rattle.td_hooks.specs.Places.{IsInside};
-ghost use Rattle.td_hooks.specs.Seen.{StandOnce, seen};
+ghost use Rattle.td_hooks.specs.Seen.{seen};
 ghost use Rattle.td_hooks.specs.Tasks.{IsList, in_list};
 
 use crate::kinds::{Kind, Queue};
@@ -38,13 +38,13 @@ fn write_existing(base: &Base, views: &Views, memory: &mut Memory, kind: Kind, p
 /// Writes the IDs of a list of tasks, as far as their place goes, and answers how many there are.
 fn write_tasks(base: &Base, memory: &mut Memory, list: TaskList, place: Place) -> u32
     requires list { IsList list }
-    requires once { StandOnce base.now }
     requires inside { IsInside place memory.old }
     ensures count { result ≡ length (in_list base.now list) }
     ensures few { result ≤ 256 }
     ensures written { memory.new ≡ with_ids memory.old place.address place.most (in_list base.now list) }
 {
     base.known_of_tasks();
+    base.known_of_orders();
     let mut count = 0;
     let mut next = list.first(base);
     'tasks: while let Some(task) = next {
@@ -83,7 +83,6 @@ pub(crate) fn list_ready(
     address: i32,
     most: i32,
 ) -> Outcome
-    requires { StandOnce base.now }
     ensures { (hooks : Hooks) → list_ready (seen base.now views.now) hooks memory.old priority address most ≡ record { hooks = hooks; memory = memory.new; outcome = result } }
 {
     if priority < 1 || priority > 140 {
@@ -106,7 +105,6 @@ pub(crate) fn list_queue(
     address: i32,
     most: i32,
 ) -> Outcome
-    requires { StandOnce base.now }
     ensures { (hooks : Hooks) → list_queue (seen base.now views.now) hooks memory.old id address most (exists (seen base.now views.now) (kind_of queue)) (object_of queue) ≡ record { hooks = hooks; memory = memory.new; outcome = result } }
 {
     if id < 1 || id > 64 {
