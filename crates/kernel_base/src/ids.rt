@@ -97,6 +97,13 @@ impl Ids {
         copied(self.list.as_slice())
     }
 
+    /// States, at no cost, that each ID stands in the order once at most.
+    pub(crate) fn known(&self)
+        ensures { IsOnce self.now }
+    {
+        let _list = &self.list;
+    }
+
     /// The IDs in order.
     pub(crate) fn as_slice(&self) -> &[u8]
         ensures { result.now ≡ self.now }

@@ -5,6 +5,7 @@ ghost use Rattle.kernel_model.specs.Tasks.Base.{back_unless_suspended, is_waitin
 ghost use Rattle.tk_types.specs.declared.task.Phase.TheVariants.{Ready};
 ghost use Rattle.kernel_model.specs.Words.Orders.{head_or_zero};
 ghost use Rattle.kernel_model.specs.Tasks.Queues.{AreOfOrder, queue_at};
+ghost use Rattle.kernel_model.specs.LawWords.Once.{IsOnce};
 ghost use Rattle.kernel_model.specs.Tasks.Waits.{HavePlaces};
 ghost use Rattle.kernel_base.specs.Waiting.{next_waiting};
 ghost use Rattle.kernel_base.specs.Ready.{has_priorities};
@@ -98,6 +99,15 @@ impl Base {
         ensures places { HavePlaces self.now }
     {
         let _waits = &self.waits;
+    }
+
+    /// States, at no cost, that each task stands once at most among the stamps, and once at most by the beginning of its wait.
+    pub fn known_of_orders(&self)
+        ensures ranks { IsOnce self.now.order }
+        ensures begins { IsOnce self.now.since }
+    {
+        self.order.known();
+        self.since.known();
     }
 
     /// How many tasks wait for an object, whose number is below 1,024 and whose waiters queue in that order.

@@ -1,0 +1,4 @@
+pub mod Written
+pub mod Walks
+pub mod Members
+pub mod Requested
