@@ -1,5 +1,4 @@
--- What the kernel does so far: the calls of all families but those on devices and those of a debugger, in scripts without
--- devices.
+-- What the kernel does so far: the calls of all families but those on devices, in scripts without devices.
 use Rattle.std.specs.Prelude.{ℕ, ◌≡◌, Bool, true, false, List, [], ◌∷◌, None, replicate}
 use Rattle.tk_types.specs.declared.calls.Call.{Call}
 use Rattle.tk_types.specs.declared.calls.Call.TheVariants as calls
@@ -13,7 +12,6 @@ use Rattle.machine_model.specs.States.State.{State}
 
 abbrev pub is_built : Call → Bool
 is_built (calls.Device call) = false
-is_built (calls.Hook call) = false
 is_built _ = true
 
 -- a script that the machine can run: it has no devices, and asks for these calls alone

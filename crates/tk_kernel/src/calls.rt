@@ -2,7 +2,8 @@
 
 ghost use Rattle.std.specs.Prelude.{◌≡◌, ◌<◌, ◌^◌, ◌++◌, IfOk, OnOk, false, true};
 ghost use Rattle.machine_model.specs.Events.Bodies.{service_value};
-ghost use Rattle.machine_model.specs.Events.Calls.{answered, call_lines, called, family_call};
+ghost use Rattle.machine_model.specs.Events.Calls.{after_hook_call, answered, call_lines, called, family_call, views_of};
+ghost use Rattle.context_model.specs.Hooks.Calls.{hook_call};
 ghost use Rattle.machine_model.specs.States.State.{who_of};
 ghost use Rattle.step_lemmas.specs.Built.{is_built};
 ghost use Rattle.step_lemmas.specs.Sound.{IsSound};
@@ -12,7 +13,8 @@ use crate::kernel::Kernel;
 use kernel_base::answers::failed;
 use std::alloc::AllocError;
 use task_machine::give;
-use tk_types::{Call, CallName, ContextCall, Er, Hook, Line, Mode, Outcome, Who};
+use td_hooks::Views;
+use tk_types::{Call, CallName, ContextCall, Er, Hook, HookCall, Line, Mode, Outcome, Who};
 
 /// Who acts in the frame with a number: the running handler in 0, and a task in each other one.
 fn who_of(actor: u8) -> Who
@@ -65,6 +67,28 @@ fn push_call_line(
 }
 
 impl Kernel {
+    /// A call of a debugger, which looks at all tables.
+    fn debugger_call(&mut self, who: Who, call: &HookCall) -> Outcome
+        ensures { after_hook_call self.old (hook_call (views_of self.old) self.old.hooks self.old.memory who call.now) ≡ record { state = self.new; outcome = result } }
+    {
+        let views = Views {
+            sem_flags: &self.sem_flags,
+            mutexes: &self.mutexes,
+            mails: &self.mails,
+            pools: &self.pools,
+            clocks: &self.clocks,
+            contexts: &self.contexts,
+        };
+        td_hooks::call(
+            &self.base,
+            &mut self.hooks,
+            &views,
+            &mut self.memory,
+            who,
+            call,
+        )
+    }
+
     /// A call of a task or of the running handler, by the family of the call.
     #[tactic(auto, unfolding(machine_model::specs::Events::Calls::family_call))]
     fn family_call(&mut self, actor: u8, call: &Call) -> Result<Outcome, AllocError>
@@ -96,7 +120,8 @@ impl Kernel {
                 who,
                 call,
             )),
-            _ => Ok(failed(Er::NoSpt)),
+            Call::Hook(call) => Ok(self.debugger_call(who, call)),
+            Call::Device(_) => Ok(failed(Er::NoSpt)),
         }
     }
 

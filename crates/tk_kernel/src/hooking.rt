@@ -1,24 +1,12 @@
 //! Lines before which a hook may stand.
 
 ghost use Rattle.std.specs.Prelude.{◌≡◌, ◌++◌, OnOk};
-ghost use Rattle.context_model.specs.Hooks.Tables.{hooks_start};
 ghost use Rattle.machine_model.specs.Events.Follow.{hooked};
 
 use crate::kernel::Kernel;
 use context_model::hook_set::HookSet;
 use std::alloc::AllocError;
 use tk_types::{Hook, Line};
-
-/// No hook is set.
-pub(crate) fn no_hooks() -> HookSet
-    ensures { result ≡ hooks_start }
-{
-    HookSet {
-        svc: false,
-        dsp: false,
-        int: false,
-    }
-}
 
 /// Adds a line, and directly before it that of its hook where the hook is set.
 pub(crate) fn push_hooked(
@@ -42,6 +30,6 @@ impl Kernel {
     pub(crate) fn hooks(&self) -> HookSet
         ensures { result ≡ self.now.hooks }
     {
-        self.hooks
+        td_hooks::hooked(&self.hooks)
     }
 }

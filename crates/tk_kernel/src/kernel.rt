@@ -14,8 +14,6 @@ ghost use Rattle.step_lemmas.specs.Sound.{IsWhole};
 ghost use Rattle.tk_kernel.specs.Tables.{AreTables};
 ghost use Rattle.machine_model.specs.States.State.{frame_of, no_frame, state_start, with_frame};
 
-use crate::hooking::no_hooks;
-use context_model::hook_set::HookSet;
 use contexts::Contexts;
 use kernel_base::{Base, Event};
 use mail_buffer::Mails;
@@ -26,6 +24,7 @@ use std::alloc::{AllocError, Global};
 use std::collections::VecDeque;
 use std::marker::Model;
 use task_machine::{Memory, new_memory, size, start_frame};
+use td_hooks::Hooks;
 use time_events::Clocks;
 use tk_types::{Frame, Script};
 
@@ -39,7 +38,7 @@ pub(crate) struct Kernel {
     pub(crate) pools: Pools,
     pub(crate) clocks: Clocks,
     pub(crate) contexts: Contexts,
-    pub(crate) hooks: HookSet,
+    pub(crate) hooks: Hooks,
     /// By task: the body that a start begins.
     pub(crate) bodies: Vec<u8>,
     /// By task: where its body is being done; in place 0 that of the running handler.
@@ -157,7 +156,7 @@ impl Kernel {
             pools,
             clocks,
             contexts,
-            hooks: no_hooks(),
+            hooks: Hooks::new(),
             bodies,
             frames,
             saved,

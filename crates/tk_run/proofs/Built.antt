@@ -19,7 +19,7 @@ use Rattle.tk_types.specs.declared.script.Stmt.{Stmt}
 use Rattle.tk_types.specs.declared.script.Stmt.TheVariants as stmts
 use Rattle.tk_model.specs.ScriptText.{Spells}
 use Rattle.kernel_model.specs.Bodies.Statements.{argument_values, fetch, fetched, statement_at}
-use Rattle.tk_script.specs.Built.{is_built_call, is_debugger_call, is_device_call}
+use Rattle.tk_script.specs.Built.{is_built_call, is_device_call}
 use Rattle.tk_script.specs.BuiltScripts.{IsBuilt as IsReadBuilt}
 use Rattle.step_lemmas.specs.Built.{IsBuilt, is_built}
 use Rattle.tk_run.specs.Readings.{IsBuiltReading}
@@ -27,7 +27,7 @@ use Rattle.tk_run.proofs.Readings.{spelled_runs}
 
 -- a call is built where its name is. The last case is checked for each name
 made_built : (name : CallName) (values : List ℕ) → is_built (made name values) ≡ is_built_call name
-unfolding made is_device_call is_debugger_call
+unfolding made is_device_call
 made_built TkCreTsk values = refl
 made_built _ values = refl
 

@@ -34,9 +34,9 @@ const WITH_DEVICE: &[u8] =
     b"utk 1\ndevice d0 ram 16\npace 7\nirq 1 1\nboot main 10\nbody main task\nnop\nend\n";
 
 const LATER: &[u8] =
-    b"utk 1\n# note\nboot main 10\nbody main task\nsay a\ntd_hok_int  1\nhalt\nend\n";
+    b"utk 1\n# note\nboot main 10\nbody main task\nsay a\ntk_cls_dev  1\nhalt\nend\n";
 
-const LATER_FORM: &[u8] = b"utk 1\nboot main 10\nbody main task\nsay a\ntd_hok_int 1\nhalt\nend\n";
+const LATER_FORM: &[u8] = b"utk 1\nboot main 10\nbody main task\nsay a\ntk_cls_dev 1\nhalt\nend\n";
 
 const OPEN_BODY: &[u8] = b"utk 1\nboot main 10\nbody main task\ntk_ext_tsk\n";
 

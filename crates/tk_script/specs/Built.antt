@@ -37,36 +37,9 @@ is_device_call calls.TkSusDev = true
 is_device_call calls.TkRefDev = true
 is_device_call _ = false
 
--- the calls of a debugger
-unfoldable pub is_debugger_call : CallName → Bool
-is_debugger_call calls.TdLstTsk = true
-is_debugger_call calls.TdLstSem = true
-is_debugger_call calls.TdLstFlg = true
-is_debugger_call calls.TdLstMbx = true
-is_debugger_call calls.TdLstMtx = true
-is_debugger_call calls.TdLstMbf = true
-is_debugger_call calls.TdLstMpf = true
-is_debugger_call calls.TdLstMpl = true
-is_debugger_call calls.TdLstCyc = true
-is_debugger_call calls.TdLstAlm = true
-is_debugger_call calls.TdLstSsy = true
-is_debugger_call calls.TdRdyQue = true
-is_debugger_call calls.TdSemQue = true
-is_debugger_call calls.TdFlgQue = true
-is_debugger_call calls.TdMbxQue = true
-is_debugger_call calls.TdMtxQue = true
-is_debugger_call calls.TdSmbfQue = true
-is_debugger_call calls.TdRmbfQue = true
-is_debugger_call calls.TdMpfQue = true
-is_debugger_call calls.TdMplQue = true
-is_debugger_call calls.TdHokSvc = true
-is_debugger_call calls.TdHokDsp = true
-is_debugger_call calls.TdHokInt = true
-is_debugger_call _ = false
-
 -- calls: all but these
 abbrev pub is_built_call : CallName → Bool
-is_built_call name = if is_device_call name || is_debugger_call name then false else true
+is_built_call name = if is_device_call name then false else true
 
 -- statements: all but such calls
 unfoldable pub is_built_stmt : Head → Bool

@@ -1,7 +1,7 @@
 //! What isn't built yet. This file and `specs/Built.antt` are the one place that says how much is.
 
 ghost use Rattle.std.specs.Prelude.{◌≡◌, length, drop};
-ghost use Rattle.tk_script.specs.Built.{first_some, first_unbuilt, is_built_call, is_built_item, is_built_kind, is_built_stmt, is_debugger_call, is_device_call, unbuilt_bodies, unbuilt_body, unbuilt_header, unbuilt_item, unless_built};
+ghost use Rattle.tk_script.specs.Built.{first_some, first_unbuilt, is_built_call, is_built_item, is_built_kind, is_built_stmt, is_device_call, unbuilt_bodies, unbuilt_body, unbuilt_header, unbuilt_item, unless_built};
 
 use crate::numbers::{behind, behind_body, boot_numbers, first_number, pace_count};
 use tk_raw::{Head, RawBody, RawItem, RawScript};
@@ -45,44 +45,11 @@ fn is_device_call(name: CallName) -> bool
     }
 }
 
-/// Whether it is a call of a debugger.
-#[tactic(auto, unfolding(crate::specs::Built::is_debugger_call))]
-fn is_debugger_call(name: CallName) -> bool
-    ensures { result ≡ is_debugger_call name }
-{
-    match name {
-        CallName::TdLstTsk
-        | CallName::TdLstSem
-        | CallName::TdLstFlg
-        | CallName::TdLstMbx
-        | CallName::TdLstMtx
-        | CallName::TdLstMbf
-        | CallName::TdLstMpf
-        | CallName::TdLstMpl
-        | CallName::TdLstCyc
-        | CallName::TdLstAlm
-        | CallName::TdLstSsy
-        | CallName::TdRdyQue
-        | CallName::TdSemQue
-        | CallName::TdFlgQue
-        | CallName::TdMbxQue
-        | CallName::TdMtxQue
-        | CallName::TdSmbfQue
-        | CallName::TdRmbfQue
-        | CallName::TdMpfQue
-        | CallName::TdMplQue
-        | CallName::TdHokSvc
-        | CallName::TdHokDsp
-        | CallName::TdHokInt => true,
-        _ => false,
-    }
-}
-
 /// Whether a call is built.
 fn is_built_call(name: CallName) -> bool
     ensures { result ≡ is_built_call name }
 {
-    !is_device_call(name) && !is_debugger_call(name)
+    !is_device_call(name)
 }
 
 /// Whether a statement is built.

@@ -152,7 +152,7 @@ fn the_first_line_not_built_is_told(rt: HostRuntime) -> Result<(), Fail> {
             None,
         ),
         (
-            "utk 1\nboot main 10\nbody main task\nlabel a\n# note\ntd_hok_dsp 1\nend\n",
+            "utk 1\nboot main 10\nbody main task\nlabel a\n# note\ntk_cls_dev 1\nend\n",
             Some((6, Why::Later)),
         ),
         (
@@ -160,8 +160,8 @@ fn the_first_line_not_built_is_told(rt: HostRuntime) -> Result<(), Fail> {
             Some((6, Why::Later)),
         ),
         (
-            "utk 1\nirq 1 1\nboot main 10\nbody main task\nend\nbody h hand\ntd_hok_int 1\nend\n",
-            Some((7, Why::Later)),
+            "utk 1\nirq 1 1\nboot main 10\nbody main task\nend\nbody h hand\ntd_hok_int 1\ntk_cls_dev 1\nend\n",
+            Some((8, Why::Later)),
         ),
         (
             "utk 1\ndevice a log\nboot main 10\nbody main task\njump x\nend\n",
