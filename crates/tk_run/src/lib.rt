@@ -7,6 +7,8 @@ mod command;
 mod context_runs;
 mod entry;
 #[cfg(test)]
+mod hook_runs;
+#[cfg(test)]
 mod mail_runs;
 #[cfg(test)]
 mod mutex_runs;
