@@ -1,0 +1,6 @@
+//! Devices: their table, the calls on them, the serving of their waiters, what goes to drivers and what comes from them.
+#![tactic(auto)]
+
+mod ids;
+mod requests;
+mod rows;
