@@ -1,3 +1,5 @@
+pub mod LinkEnds
 pub mod Listed
 pub mod RequestMoves
 pub mod Slots
+pub mod Stores

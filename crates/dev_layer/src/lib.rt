@@ -2,5 +2,7 @@
 #![tactic(auto)]
 
 mod ids;
+mod link;
 mod requests;
 mod rows;
+mod units;

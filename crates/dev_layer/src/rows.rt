@@ -214,7 +214,7 @@ impl Row {
 }
 
 /// The same bytes once more.
-fn copied(alloc: Global, bytes: &[u8]) -> Result<Sequence<u8>, AllocError>
+pub(crate) fn copied(alloc: Global, bytes: &[u8]) -> Result<Sequence<u8>, AllocError>
     ensures { IfOk result (λ copy. copy ≡ bytes.now) }
 {
     let mut copy = Vec::with_capacity(alloc, bytes.len())?;
