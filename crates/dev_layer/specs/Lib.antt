@@ -1,2 +1,4 @@
 pub mod Links
+pub mod Messages
 pub mod Requests
+pub mod Tables

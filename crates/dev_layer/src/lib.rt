@@ -3,6 +3,8 @@
 
 mod ids;
 mod link;
+mod links;
 mod requests;
 mod rows;
+mod table;
 mod units;

@@ -6,6 +6,7 @@ ghost use Rattle.device_model.specs.Devices.Endings.{expected_given, is_allowed,
 ghost use Rattle.device_model.specs.Devices.Tables.{Given as GivenView, link_start, request_in};
 ghost use Rattle.device_model.specs.Units.Function.{IsWhole, Served, available, content_of};
 ghost use Rattle.device_model.specs.Units.Stores.{first_bytes, is_log};
+ghost use Rattle.dev_layer.specs.Messages.{abort_given};
 ghost use Rattle.dev_layer.specs.Links.{IsGiven, IsKind, IsServed, allows_end, count_by_end, fits_given, given_asked, link_ended, link_hands, stored};
 
 use crate::rows::copied;
@@ -148,6 +149,20 @@ impl Link {
         self.number
     }
 
+    /// The number of the request whose abort wasn't asked yet.
+    pub(crate) fn to_abort(&self) -> Option<u64>
+        ensures { result ≡ abort_given self.now.given }
+    {
+        match self.given() {
+            None => None,
+            Some(given) => if given.is_asked() {
+                None
+            } else {
+                Some(given.request().number)
+            },
+        }
+    }
+
     /// The abort of the request that is with the driver is asked.
     pub(crate) fn ask(&mut self)
         ensures { self.new ≡ record self.old { given = option_map given_asked self.old.given } }
@@ -263,11 +278,7 @@ impl Link {
         ensures few { result.size ≤ 65536 }
     {
         let Some(given) = std::mem::replace(&mut self.given, None) else {
-            return Moved {
-                count: 0,
-                size: 0,
-                error: Er::Ok,
-            };
+            return Moved::NOTHING;
         };
         let request = given.request();
         let moved = served(self.kind, self.bytes.len(), self.begun, request, how);

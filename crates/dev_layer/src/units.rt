@@ -23,6 +23,15 @@ pub(crate) struct Moved {
     pub(crate) error: Er,
 }
 
+impl Moved {
+    /// Nothing was moved.
+    pub(crate) const NOTHING: Moved = Moved {
+        count: 0,
+        size: 0,
+        error: Er::Ok,
+    };
+}
+
 /// Whether a store only grows.
 pub(crate) fn is_log(kind: Kind) -> bool
     ensures { result ≡ is_log kind }
