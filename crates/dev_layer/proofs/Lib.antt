@@ -1,4 +1,7 @@
+pub mod Arrivals
 pub mod Attached
+pub mod Bytes
+pub mod Handed
 pub mod LinkEnds
 pub mod Linked
 pub mod Listed

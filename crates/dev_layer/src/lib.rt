@@ -1,10 +1,17 @@
 //! Devices: their table, the calls on them, the serving of their waiters, what goes to drivers and what comes from them.
 #![tactic(auto)]
 
+mod arriving;
+mod handing;
 mod ids;
 mod link;
 mod links;
+mod opening;
 mod requests;
 mod rows;
 mod table;
 mod units;
+
+pub use arriving::arrive;
+pub use handing::hand_over;
+pub use table::{Devices, at_driver, expected, first_queued, messages};

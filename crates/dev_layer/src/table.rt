@@ -7,11 +7,15 @@ ghost use Rattle.kernel_model.specs.Words.Orders.{free_from};
 ghost use Rattle.device_model.specs.declared.rows.Wish.TheVariants.{Nothing};
 ghost use Rattle.device_model.specs.Devices.Calls.{has_request};
 ghost use Rattle.device_model.specs.Devices.Endings.{expected};
-ghost use Rattle.device_model.specs.Devices.Handing.{any_given, emptied, messages};
+ghost use Rattle.device_model.specs.Devices.Handing.{any_given, emptied, hand_first, handed_all, messages};
 ghost use Rattle.device_model.specs.Devices.Requests.{has_ended_of, has_place};
-ghost use Rattle.device_model.specs.Devices.Tables.{accepted, asked, at_driver, buffer_of, devices_start, dropped, first_queued, free_descriptor, free_request, link_at, opened_at, queues_on, row_at, wish_of, with_buffer, with_off, with_open, with_wish};
+ghost use Rattle.device_model.specs.Devices.Tables.{accepted, asked, at_driver, buffer_of, devices_start, device_ids, dropped, first_queued, free_descriptor, free_request, link_at, opened_at, queues_on, row_at, wish_of, with_buffer, with_off, with_open, with_wish};
+ghost use Rattle.dev_layer.specs.Arriving.{ended_parts};
+ghost use Rattle.dev_layer.specs.Handing.{HaveFew};
+ghost use Rattle.dev_layer.specs.Messages.{allows_link, fits_link};
 ghost use Rattle.dev_layer.specs.Tables.{AreDevices, IsWish};
 
+use crate::handing::{first_device, hand_each, hand_one};
 use crate::links::Links;
 use crate::requests::Requests;
 use crate::rows::Row;
@@ -336,6 +340,51 @@ impl Devices {
     {
         self.links.ask(device)?;
         Ok(())
+    }
+
+    /// Each driver without a request gets the first that waits for it. An error says that there was no memory for the
+    /// messages, and that nothing changed.
+    pub(crate) fn hand_all(&mut self) -> Result<(), AllocError>
+        requires { HaveFew self.old.links }
+        ensures ok { OnOk result (self.new ≡ handed_all (device_ids self.old) self.old) }
+        ensures err { OnErr result (self.new ≡ self.old) }
+    {
+        let count = self.links.count() as usize;
+        self.links.reserve(count)?;
+        hand_each(&mut self.links, &mut self.requests);
+        Ok(())
+    }
+
+    /// The least device for whose driver a request waits gets its first. An error says that there was no memory for the
+    /// message, and that nothing changed.
+    #[tactic(auto, unfolding(device_model::specs::Devices::Handing::hand_first))]
+    pub(crate) fn hand_first(&mut self) -> Result<(), AllocError>
+        requires { HaveFew self.old.links }
+        ensures ok { OnOk result (self.new ≡ hand_first self.old) }
+        ensures err { OnErr result (self.new ≡ self.old) }
+    {
+        let Some(device) = first_device(&self.links, &self.requests) else {
+            return Ok(());
+        };
+        self.links.reserve(1)?;
+        hand_one(&mut self.links, &mut self.requests, device);
+        Ok(())
+    }
+
+    /// Whether an ending is fit for what is with its device's driver.
+    pub(crate) fn fits(&self, ending: &Ending) -> bool
+        ensures { result ≡ fits_link ending.now (link_at self.now ending.now.device) }
+    {
+        self.links.fits(ending)
+    }
+
+    /// The request that is with the driver of a device has ended, as it may.
+    pub(crate) fn end(&mut self, device: u8, id: u8, how: How)
+        requires { allows_link how (link_at self.old device) ≡ true }
+        ensures { self.new ≡ ended_parts self.old device id how }
+    {
+        let moved = self.links.finish(device, how);
+        self.requests.end(id, moved.size, moved.error);
     }
 }
 
