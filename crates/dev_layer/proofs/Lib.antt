@@ -5,6 +5,7 @@ pub mod Handed
 pub mod LinkEnds
 pub mod Linked
 pub mod Listed
+pub mod Opened
 pub mod RequestMoves
 pub mod Slots
 pub mod Stores

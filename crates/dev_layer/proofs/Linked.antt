@@ -1,5 +1,5 @@
 -- What is read of a device, and what is written, whatever its messages are.
-use Rattle.std.proofs.Common.{◌≡◌, ℕ, zero, suc, ◌+◌, ◌≤◌, Bool, true, false, List, [], ◌∷◌, ◌++◌, Option, Some, None, refl, ap, sym, subst, ◌∙◌, arith, length}
+use Rattle.std.proofs.Common.{◌≡◌, ℕ, zero, suc, ◌+◌, ◌≤◌, Bool, true, false, List, [], ◌∷◌, ◌++◌, Option, Some, None, refl, ap, sym, subst, ◌∙◌, arith, length, ◌<◌}
 use Rattle.std.specs.Option.{is_some, option_map}
 use Rattle.std.specs.Prelude.{Err, IsOk, Ok, Result, filter, if◌then◌else◌, is_ok, slice_set}
 use Rattle.std.proofs.lemmas.List.{length-set}
@@ -92,10 +92,18 @@ pub known_kept : (slots : List (Option Link)) (n : ℕ) (slot : Option Link) (ou
 known_kept slots n slot [] same known = tt
 known_kept slots n slot (m ∷ rest) same known = (set_keeps slots n slot (receiver m) same known.0, known_kept slots n slot rest same known.1)
 
+unnamed_kept : (slots : List (Option Link)) (n : ℕ) (slot : Option Link) → is_some (entry slots n) ≡ is_some slot → entry slots 0 ≡ None → entry (slice_set slots n slot) 0 ≡ None
+unnamed_kept [] n slot same none = refl
+unnamed_kept (None ∷ slots) zero None same none = refl
+unnamed_kept (None ∷ slots) zero (Some link) same none = absurd (cc same)
+unnamed_kept (Some first ∷ slots) zero slot same none = absurd (cc none)
+unnamed_kept (first ∷ slots) (suc n) slot same none = none
+
 -- a slot is written, in which there is a device before and after or none
 pub links_kept : (slots : List (Option Link)) (n : ℕ) (slot : Option Link) (out : List Message) → is_some (entry slots n) ≡ is_some slot → AreLinks slots out → AreLinks (slice_set slots n slot) out
 links_kept slots n slot out same are = record {
   few = subst (λ (k : ℕ). k ≤ 9) (sym (length-set slots n slot)) are.few;
+  unnamed = unnamed_kept slots n slot same are.unnamed;
   sorted = are.sorted;
   known = known_kept slots n slot out same are.known;
 }
@@ -114,6 +122,7 @@ put_fit slots after out more n slot m is there some written put are =
     let known : AreKnown slots (put_out m out) = put_known slots m out (ap (λ (k : ℕ). is_some (entry slots k)) is ∙ there) are.known in
     let whole : AreLinks (slice_set slots n slot) (put_out m out) = record {
       few = subst (λ (k : ℕ). k ≤ 9) (sym (length-set slots n slot)) are.few;
+      unnamed = unnamed_kept slots n slot same are.unnamed;
       sorted = put_sorted m out 0 (omega arith) are.sorted;
       known = known_kept slots n slot (put_out m out) same known;
     } in
@@ -226,3 +235,16 @@ not_asked links n none = unasked links n (entry links n) none
 pub inserted : {A E : Type 0} (result : Result A E) (one other : List Message) → IsOk result → (if is_ok result then one else other) ≡ one
 inserted (Ok value) one other ok = refl
 inserted (Err error) one other ok = absurd (cc ok)
+
+named_if : (slots : List (Option Link)) (n : ℕ) → length slots ≤ 9 → entry slots 0 ≡ None → is_some (entry slots n) ≡ true → (1 ≤ n) × (n ≤ 8)
+named_if slots zero few none some = absurd (cc (none, some))
+named_if slots (suc n) few none some = let inside : suc n < length slots = inside_of slots (suc n) some in (omega arith, omega (arith, few, inside))
+  where
+  inside_of : (all : List (Option Link)) (k : ℕ) → is_some (entry all k) ≡ true → k < length all
+  inside_of [] k some = absurd (cc some)
+  inside_of (x ∷ all) zero some = omega arith
+  inside_of (x ∷ all) (suc k) some = let rest : k < length all = inside_of all k some in omega (arith, rest)
+
+-- the IDs of devices are from 1 to 8
+pub named_by : (slots : List (Option Link)) (out : List Message) (n : ℕ) → AreLinks slots out → is_some (entry slots n) ≡ true → (1 ≤ n) × (n ≤ 8)
+named_by slots out n are some = named_if slots n are.few are.unnamed some

@@ -50,6 +50,7 @@ pub record LinkTable : Type 0 where
 
 pub record AreLinks (slots : List (Option Link)) (out : List Message) : Type 0 where
   pub few : length slots ≤ 9
+  pub unnamed : entry slots 0 ≡ None  -- no device has the ID 0
   pub sorted : AreFrom 0 out
   pub known : AreKnown slots out
 

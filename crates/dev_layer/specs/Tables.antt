@@ -1,7 +1,8 @@
 -- The tables of the devices have a slot for each ID, and a place for each task.
-use Rattle.std.specs.Prelude.{ℕ, ◌≡◌, ◌+◌, ◌≤◌, List, Option, length}
+use Rattle.std.specs.Prelude.{ℕ, ◌≡◌, ◌+◌, ◌≤◌, List, Option, length, Some, None}
 use Rattle.std.specs.List.{All}
 use Rattle.tk_types.specs.declared.script.Device.{Device}
+use Rattle.kernel_model.specs.Words.Orders.{entry}
 use Rattle.device_model.specs.declared.rows.Opened.{Opened}
 use Rattle.device_model.specs.declared.rows.Transfer.{Transfer}
 use Rattle.device_model.specs.declared.rows.Wish.{Wish}
@@ -19,10 +20,16 @@ abbrev pub IsWish : Wish → Type 0
 IsWish (wish.Acceptance transfer stays) = IsInside transfer
 IsWish _ = Unit {0}
 
+-- an open descriptor is one of a device
+abbrev pub IsOpened : Option Opened → Type 0
+IsOpened None = Unit {0}
+IsOpened (Some opened) = (1 ≤ opened.device) × (opened.device ≤ 8)
+
 pub record AreTables (buffers : List ℕ) (opened : List (Option Opened)) (wishes : List Wish) : Type 0 where
   pub all_buffers : length buffers ≡ 9
   pub all_opened : length opened ≡ 33
   pub all_wishes : length wishes ≡ 256
+  pub fit : (n : ℕ) → IsOpened (entry opened n)
 
 -- at most eight devices, and the numbers of their kinds are in range
 pub record AreDevices (devices : List Device) : Type 0 where

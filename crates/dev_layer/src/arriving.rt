@@ -45,7 +45,7 @@ fn close_after(base: &Base, table: &mut Devices, id: u8, descriptor: u8)
     table.drop_request(id);
     let object = FIRST_CLOSE + (descriptor as u32).saturating_sub(1);
     if base.waiter(Order::Fifo, object, 0).is_none() {
-        table.set_opened(descriptor, None);
+        table.set_free(descriptor);
     }
 }
 

@@ -141,6 +141,13 @@ impl Links {
         self.slot(device).is_some()
     }
 
+    /// States, at no cost, that the IDs of devices are from 1 to 8.
+    pub(crate) fn known_of_device(&self, device: u8)
+        ensures { is_some (entry self.now.links device) ≡ true → (1 ≤ device) × (device ≤ 8) }
+    {
+        let _slots = &self.slots;
+    }
+
     /// The ID of the request that is with the driver of a device.
     pub(crate) fn at_driver(&self, device: u8) -> Option<u8>
         ensures { result ≡ request_in (given_in (entry self.now.links device)) }

@@ -87,6 +87,7 @@ pub(crate) fn open_device(table: &mut Devices, device: u8, mode: OpenMode) -> Ou
     if !table.has_device(device) {
         return failed(Er::NoExs);
     }
+    table.known_of_device(device);
     if is_busy(table, device, mode) {
         return failed(Er::Busy);
     }
@@ -96,11 +97,11 @@ pub(crate) fn open_device(table: &mut Devices, device: u8, mode: OpenMode) -> Ou
     }
     table.set_opened(
         descriptor,
-        Some(Opened {
+        Opened {
             device,
             mode,
             closing: false,
-        }),
+        },
     );
     done(descriptor as i32)
 }

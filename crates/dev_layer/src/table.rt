@@ -178,6 +178,13 @@ impl Devices {
         self.links.has(device)
     }
 
+    /// States, at no cost, that the IDs of devices are from 1 to 8.
+    pub(crate) fn known_of_device(&self, device: u8)
+        ensures { is_some (link_at self.now device) ≡ true → (1 ≤ device) × (device ≤ 8) }
+    {
+        self.links.known_of_device(device);
+    }
+
     /// Whether any driver has a request.
     pub(crate) fn any_given(&self) -> bool
         ensures { result ≡ any_given self.now }
@@ -218,7 +225,9 @@ impl Devices {
     /// The descriptor with that number.
     pub(crate) fn opened(&self, descriptor: u8) -> Option<Opened>
         requires { descriptor ≤ 32 }
-        ensures { result ≡ opened_at self.now descriptor }
+        ensures opened { result ≡ opened_at self.now descriptor }
+        ensures low { IfSome result (λ opened. 1 ≤ opened.device) }
+        ensures high { IfSome result (λ opened. opened.device ≤ 8) }
     {
         self.opened[descriptor as usize]
     }
@@ -231,12 +240,22 @@ impl Devices {
         self.opened.as_slice()
     }
 
-    /// A descriptor is taken, is being closed, or is free again.
-    pub(crate) fn set_opened(&mut self, descriptor: u8, slot: Option<Opened>)
-        requires { descriptor ≤ 32 }
-        ensures { self.new ≡ with_open self.old descriptor slot }
+    /// A descriptor is taken, or is being closed.
+    pub(crate) fn set_opened(&mut self, descriptor: u8, opened: Opened)
+        requires small { descriptor ≤ 32 }
+        requires low { 1 ≤ opened.device }
+        requires high { opened.device ≤ 8 }
+        ensures { self.new ≡ with_open self.old descriptor (Some opened) }
     {
-        self.opened[descriptor as usize] = slot;
+        self.opened[descriptor as usize] = Some(opened);
+    }
+
+    /// A descriptor is free again.
+    pub(crate) fn set_free(&mut self, descriptor: u8)
+        requires { descriptor ≤ 32 }
+        ensures { self.new ≡ with_open self.old descriptor None }
+    {
+        self.opened[descriptor as usize] = None;
     }
 
     /// The least free descriptor, or 0.
