@@ -1,9 +1,9 @@
 -- Bytes between a device and the script's memory, one by one and as a run.
-use Rattle.std.proofs.Common.{◌≡◌, ℕ, zero, suc, ◌+◌, ◌-◌, ◌≤◌, ◌<◌, List, [], ◌∷◌, ◌++◌, refl, ap, sym, subst, ◌∙◌, arith, length, take, drop, append-nil, append_assoc, add-one, get_or, set}
+use Rattle.std.proofs.Common.{◌≡◌, ℕ, zero, suc, ◌+◌, ◌*◌, ◌-◌, ◌≤◌, ◌<◌, List, [], ◌∷◌, ◌++◌, refl, ap, sym, subst, ◌∙◌, arith, length, take, drop, append-nil, append_assoc, add-one, get_or, set}
 use Rattle.std.specs.Prelude.{min, slice_index, slice_set}
 use Rattle.std.proofs.lemmas.Grind.{common_steps}
-use Rattle.std.proofs.lemmas.List.{drop_more, drop-set-lt, length-set, take-append-drop}
-use Rattle.device_model.specs.Devices.Memory.{read_bytes, write_bytes}
+use Rattle.std.proofs.lemmas.List.{drop_more, drop-set-lt, length-drop, length-set, length-take, take-append-drop}
+use Rattle.device_model.specs.Devices.Memory.{number_of, read_bytes, write_bytes}
 use Rattle.task_machine.specs.Bytes.{with_run}
 
 -- so many bytes are read from an address on
@@ -63,3 +63,20 @@ write_run (byte ∷ bytes) address memory (suc room) is =
 -- as many as there are, or as there is room for
 pub take_least : (room : ℕ) (bytes : List ℕ) → take (min (length bytes) room) bytes ≡ take room bytes
 take_least room bytes = grind (arith, common_steps)
+
+-- as many bytes as were asked for are those that are read one by one
+pub read_same : (n address : ℕ) (memory xs : List ℕ) → xs ≡ take n (drop address memory) → length xs ≡ n → xs ≡ read_bytes n address memory
+unfolding read_bytes
+read_same zero address memory xs is all = is
+read_same (suc n) address memory xs is all =
+    let some : min (suc n) (length memory - address) ≡ suc n = sym (length-take (suc n) (drop address memory) ∙ ap (min (suc n)) (length-drop address memory)) ∙ ap length (sym is) ∙ all in
+    is ∙ sym (read_run (suc n) address memory (omega (arith, some)))
+
+-- four bytes as a number
+pub number_four : (xs : List ℕ) → length xs ≡ 4 → number_of xs ≡ get_or xs 0 0 + 256 * get_or xs 1 0 + 65536 * (get_or xs 2 0 + 256 * get_or xs 3 0)
+number_four (a ∷ b ∷ c ∷ d ∷ []) all = omega arith
+number_four [] all = absurd (omega (arith, all))
+number_four (a ∷ []) all = absurd (omega (arith, all))
+number_four (a ∷ b ∷ []) all = absurd (omega (arith, all))
+number_four (a ∷ b ∷ c ∷ []) all = absurd (omega (arith, all))
+number_four (a ∷ b ∷ c ∷ d ∷ e ∷ more) all = absurd (omega (arith, all))

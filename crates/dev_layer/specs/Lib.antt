@@ -5,3 +5,4 @@ pub mod Tables
 pub mod Handing
 pub mod Parts
 pub mod Arriving
+pub mod Accepting

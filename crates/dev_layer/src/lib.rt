@@ -1,6 +1,7 @@
 //! Devices: their table, the calls on them, the serving of their waiters, what goes to drivers and what comes from them.
 #![tactic(auto)]
 
+mod accepting;
 mod arriving;
 mod handing;
 mod ids;
