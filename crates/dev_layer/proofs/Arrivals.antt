@@ -85,16 +85,16 @@ row_arrives : (p : DevParts) (ending : Ending) (link : Link) (given : Given) (sl
 row_arrives p ending link given None there has in_row fit = refl
 row_arrives p ending link given (Some row) there has in_row fit = at_if (is_at_driver row.life) refl
   where
-  at_if : (b : Bool) → is_at_driver row.life ≡ b →
-      arrive_row p ending.device link given.request.id (served_of link.kind link.store given.request ending.how) (Some row) ≡ option_map (arrived_at p ending) (expected_row given.request.id (Some row))
-  at_if false is = rw is refl
-  at_if true is =
-      let table : closed p.base (ended_at p.table ending.device link given.request.id row (served_of link.kind link.store given.request ending.how)) given.request.id row.descriptor ≡ closed p.base (ended_parts p.table ending.device given.request.id ending.how) given.request.id row.descriptor =
-      ap (λ (dv : Devices). closed p.base dv given.request.id row.descriptor) (ended_table p.table ending.device link given row ending.how there has in_row is) in
-      let memory : write_bytes (served_of link.kind link.store given.request ending.how).content row.address p.memory ≡ write_bytes ending.bytes row.address p.memory =
-      ap (λ xs. write_bytes xs row.address p.memory) (bytes_of_fit ending link given fit) in
-      rw is (ap (λ (dv : Devices). Some (record p { table = dv; memory = write_bytes (served_of link.kind link.store given.request ending.how).content row.address p.memory })) table
-      ∙ ap (λ (m : List ℕ). Some (record p { table = closed p.base (ended_parts p.table ending.device given.request.id ending.how) given.request.id row.descriptor; memory = m })) memory)
+    at_if : (b : Bool) → is_at_driver row.life ≡ b →
+        arrive_row p ending.device link given.request.id (served_of link.kind link.store given.request ending.how) (Some row) ≡ option_map (arrived_at p ending) (expected_row given.request.id (Some row))
+    at_if false is = rw is refl
+    at_if true is =
+        let table : closed p.base (ended_at p.table ending.device link given.request.id row (served_of link.kind link.store given.request ending.how)) given.request.id row.descriptor ≡ closed p.base (ended_parts p.table ending.device given.request.id ending.how) given.request.id row.descriptor =
+        ap (λ (dv : Devices). closed p.base dv given.request.id row.descriptor) (ended_table p.table ending.device link given row ending.how there has in_row is) in
+        let memory : write_bytes (served_of link.kind link.store given.request ending.how).content row.address p.memory ≡ write_bytes ending.bytes row.address p.memory =
+        ap (λ xs. write_bytes xs row.address p.memory) (bytes_of_fit ending link given fit) in
+        rw is (ap (λ (dv : Devices). Some (record p { table = dv; memory = write_bytes (served_of link.kind link.store given.request ending.how).content row.address p.memory })) table
+        ∙ ap (λ (m : List ℕ). Some (record p { table = closed p.base (ended_parts p.table ending.device given.request.id ending.how) given.request.id row.descriptor; memory = m })) memory)
 
 at_driver_of : (dv : Devices) (d : ℕ) (link : Link) (given : Given) → link_at dv d ≡ Some link → link.given ≡ Some given → at_driver dv d ≡ Some given.request.id
 unfolding at_driver

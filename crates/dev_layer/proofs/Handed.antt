@@ -31,9 +31,9 @@ given_by : (dv : Devices) (d : ℕ) (slot : Option Link) → has_given slot ≡ 
 given_by dv d None has = refl
 given_by dv d (Some link) has = given_if link.given has
   where
-  given_if : (given : Option Given) → is_some given ≡ true → handed_given dv d link given ≡ dv
-  given_if None some = absurd (cc some)
-  given_if (Some given) some = refl
+    given_if : (given : Option Given) → is_some given ≡ true → handed_given dv d link given ≡ dv
+    given_if None some = absurd (cc some)
+    given_if (Some given) some = refl
 
 -- where a driver has a request, none goes
 pub busy_handed : (dv : Devices) (links : List (Option Link)) (rq : Requests) (d : ℕ) → dv.links ≡ links → requests_of dv ≡ rq → has_given (entry links d) ≡ true → handed dv d ≡ with_parts dv links rq
@@ -47,9 +47,9 @@ free_by dv d slot link there free = ap (handed_link dv d) there ∙ ap (handed_g
 free_of : (link : Link) → has_given (Some link) ≡ false → link.given ≡ None
 free_of link not_so = none_of link.given not_so
   where
-  none_of : (given : Option Given) → is_some given ≡ false → given ≡ None
-  none_of None is = refl
-  none_of (Some given) is = absurd (cc is)
+    none_of : (given : Option Given) → is_some given ≡ false → given ≡ None
+    none_of None is = refl
+    none_of (Some given) is = absurd (cc is)
 
 idle_by : (dv : Devices) (d : ℕ) (slot : Option Link) → is_some slot ≡ true → has_given slot ≡ false → first_queued dv d ≡ None → handed_link dv d slot ≡ dv
 idle_by dv d None some free none = absurd (cc some)
@@ -90,24 +90,24 @@ pub first_handed : (dv : Devices) (links after : List (Option Link)) (rq left : 
 unfolding handed
 first_handed dv links after rq left d id request one other some free first waits told moved taken =
     link_of_slot (entry links d) some (handed_link dv d (link_at dv d) ≡ with_parts dv after left) (λ link there.
-        row_of_waiting (entry rq.rows id) waits (handed_link dv d (link_at dv d) ≡ with_parts dv after left) (λ row has.
-            let shown : link_at dv d ≡ Some link = ap (λ (all : List (Option Link)). entry all d) one ∙ there in
-            let unheld : link.given ≡ None = free_of link (ap has_given (sym there) ∙ free) in
-            let has_row : row_at dv id ≡ Some row = ap (λ (r : Requests). entry r.rows id) other ∙ has in
-            let is : request ≡ request_of id (link.number + 1) row = told row has ∙ ap (λ (n : ℕ). request_of id (n + 1) row) (number_at (entry links d) link there) in
-            handed_by dv d id link row request shown unheld (first_of dv rq d other ∙ first) has_row is
-            ∙ ap (λ (all : List (Option Link)). with_parts dv (links_handed all d request) (request_handed (requests_of dv) id)) one
-            ∙ ap (λ (r : Requests). with_parts dv (links_handed links d request) (request_handed r id)) other
-            ∙ ap (λ (all : List (Option Link)). with_parts dv all (request_handed rq id)) (sym moved)
-            ∙ ap (λ (r : Requests). with_parts dv after r) (sym taken)))
+    row_of_waiting (entry rq.rows id) waits (handed_link dv d (link_at dv d) ≡ with_parts dv after left) (λ row has.
+    let shown : link_at dv d ≡ Some link = ap (λ (all : List (Option Link)). entry all d) one ∙ there in
+    let unheld : link.given ≡ None = free_of link (ap has_given (sym there) ∙ free) in
+    let has_row : row_at dv id ≡ Some row = ap (λ (r : Requests). entry r.rows id) other ∙ has in
+    let is : request ≡ request_of id (link.number + 1) row = told row has ∙ ap (λ (n : ℕ). request_of id (n + 1) row) (number_at (entry links d) link there) in
+    handed_by dv d id link row request shown unheld (first_of dv rq d other ∙ first) has_row is
+    ∙ ap (λ (all : List (Option Link)). with_parts dv (links_handed all d request) (request_handed (requests_of dv) id)) one
+    ∙ ap (λ (r : Requests). with_parts dv (links_handed links d request) (request_handed r id)) other
+    ∙ ap (λ (all : List (Option Link)). with_parts dv all (request_handed rq id)) (sym moved)
+    ∙ ap (λ (r : Requests). with_parts dv after r) (sym taken)))
 
 queued_slot : (d : ℕ) (slot : Option Row) → queues_on d slot ≡ true → queues_some slot ≡ true
 queued_slot d None is = absurd (cc is)
 queued_slot d (Some row) is = second_of (row.device == d) (is_queued row.life) is
   where
-  second_of : (a b : Bool) → (a && b) ≡ true → b ≡ true
-  second_of true b is = is
-  second_of false b is = absurd (cc is)
+    second_of : (a b : Bool) → (a && b) ≡ true → b ≡ true
+    second_of true b is = is
+    second_of false b is = absurd (cc is)
 
 pub waits_there : (rq : Requests) (d id : ℕ) → queues_on d (entry rq.rows id) ≡ true → queues_some (entry rq.rows id) ≡ true
 waits_there rq d id is = queued_slot d (entry rq.rows id) is

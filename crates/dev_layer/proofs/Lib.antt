@@ -1,12 +1,16 @@
 pub mod Arrivals
 pub mod Attached
 pub mod Bytes
+pub mod Checked
 pub mod Handed
 pub mod LinkEnds
 pub mod Linked
 pub mod Listed
 pub mod Opened
 pub mod RequestMoves
+pub mod RequestChecks
 pub mod Slots
+pub mod Sought
 pub mod Stores
 pub mod TableMoves
+pub mod WaitChecks

@@ -240,10 +240,10 @@ named_if : (slots : List (Option Link)) (n : ℕ) → length slots ≤ 9 → ent
 named_if slots zero few none some = absurd (cc (none, some))
 named_if slots (suc n) few none some = let inside : suc n < length slots = inside_of slots (suc n) some in (omega arith, omega (arith, few, inside))
   where
-  inside_of : (all : List (Option Link)) (k : ℕ) → is_some (entry all k) ≡ true → k < length all
-  inside_of [] k some = absurd (cc some)
-  inside_of (x ∷ all) zero some = omega arith
-  inside_of (x ∷ all) (suc k) some = let rest : k < length all = inside_of all k some in omega (arith, rest)
+    inside_of : (all : List (Option Link)) (k : ℕ) → is_some (entry all k) ≡ true → k < length all
+    inside_of [] k some = absurd (cc some)
+    inside_of (x ∷ all) zero some = omega arith
+    inside_of (x ∷ all) (suc k) some = let rest : k < length all = inside_of all k some in omega (arith, rest)
 
 -- the IDs of devices are from 1 to 8
 pub named_by : (slots : List (Option Link)) (out : List Message) (n : ℕ) → AreLinks slots out → is_some (entry slots n) ≡ true → (1 ≤ n) × (n ≤ 8)

@@ -6,3 +6,4 @@ pub mod Handing
 pub mod Parts
 pub mod Arriving
 pub mod Accepting
+pub mod Waiters

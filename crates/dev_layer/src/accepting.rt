@@ -35,14 +35,7 @@ fn written_bytes(memory: &Memory, transfer: Transfer) -> &[u8]
 }
 
 /// A request has ended as it is accepted.
-fn accept_ended(
-    table: &mut Devices,
-    device: u8,
-    id: u8,
-    transfer: Transfer,
-    size: u32,
-    error: Er,
-)
+fn accept_ended(table: &mut Devices, device: u8, id: u8, transfer: Transfer, size: u32, error: Er)
     requires inside { IsInside transfer }
     requires within { id ≤ 64 }
     requires few { table.old.serial < 2 ^ 63 }

@@ -82,12 +82,7 @@ pub(crate) fn first_device(links: &Links, requests: &Requests) -> Option<u8>
 /// gets its first. Fewer than 2^63 requests went to any driver before. An error says that there was no memory for the
 /// messages, and that nothing changed.
 #[tactic(auto, unfolding(device_model::specs::Devices::Handing::hand_over))]
-pub fn hand_over(
-    base: &Base,
-    table: &mut Devices,
-    mode: Mode,
-    idle: bool,
-) -> Result<(), AllocError>
+pub fn hand_over(base: &Base, table: &mut Devices, mode: Mode, idle: bool) -> Result<(), AllocError>
     requires queued { AreQueued base.now }
     requires few { HaveFew table.old.links }
     ensures ok { OnOk result (table.new ≡ handed_over mode idle base.now table.old) }
@@ -95,10 +90,7 @@ pub fn hand_over(
 {
     match mode {
         Mode::Free => {
-            if base
-                .waiter(Order::Fifo, SUSPENSION, 0)
-                .is_some()
-            {
+            if base.waiter(Order::Fifo, SUSPENSION, 0).is_some() {
                 return Ok(());
             }
             table.hand_all()

@@ -8,10 +8,13 @@ mod ids;
 mod link;
 mod links;
 mod opening;
+mod requesting;
 mod requests;
 mod rows;
 mod table;
 mod units;
+mod waiters;
+mod waiting;
 
 pub use arriving::arrive;
 pub use handing::hand_over;
