@@ -1,7 +1,9 @@
+pub mod Aborting
 pub mod Arrivals
 pub mod Attached
 pub mod Bytes
 pub mod Checked
+pub mod Earlier
 pub mod Handed
 pub mod LinkEnds
 pub mod Linked
@@ -9,6 +11,7 @@ pub mod Listed
 pub mod Opened
 pub mod RequestMoves
 pub mod RequestChecks
+pub mod Served
 pub mod Slots
 pub mod Sought
 pub mod Stores

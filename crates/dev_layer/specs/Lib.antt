@@ -7,3 +7,4 @@ pub mod Parts
 pub mod Arriving
 pub mod Accepting
 pub mod Waiters
+pub mod Closing

@@ -3,6 +3,7 @@
 
 mod accepting;
 mod arriving;
+mod closing;
 mod handing;
 mod ids;
 mod link;
@@ -11,6 +12,7 @@ mod opening;
 mod requesting;
 mod requests;
 mod rows;
+mod serving;
 mod table;
 mod units;
 mod waiters;

@@ -4,7 +4,7 @@ ghost use Rattle.std.specs.Prelude.{◌≡◌, ◌≤◌, ◌+◌, ◌-◌, slic
 ghost use Rattle.std.specs.List.{find, list_any};
 ghost use Rattle.std.specs.Option.{is_some};
 ghost use Rattle.kernel_model.specs.Tasks.Base.{fifo_queue};
-ghost use Rattle.device_model.specs.Devices.Calls.{is_any_task, wants, wants_any, will_stay};
+ghost use Rattle.device_model.specs.Devices.Calls.{is_any_task, wants, wants_any, will_stay, wish_is_of};
 ghost use Rattle.device_model.specs.Devices.Requests.{has_ended_with, picked};
 ghost use Rattle.device_model.specs.Devices.Tables.{row_at, wish_of};
 ghost use Rattle.dev_layer.specs.Parts.{AreQueued};
@@ -53,6 +53,8 @@ pub(crate) enum Sought {
     EndingOf(u8),
     /// One that will stay for the ending of its request of that descriptor once it is accepted.
     Staying(u8),
+    /// One that wants a request of that descriptor to be accepted.
+    Asking(u8),
     /// One whose ending of that descriptor is there.
     Fulfilled(u8),
 }
@@ -119,6 +121,18 @@ fn will_stay(wish: Wish, descriptor: u8) -> bool
     }
 }
 
+/// Whether a wish is for an acceptance of a request of a descriptor.
+fn is_of(wish: Wish, descriptor: u8) -> bool
+    ensures { result ≡ wish_is_of descriptor wish }
+{
+    match wish {
+        Wish::Acceptance { transfer, .. } => transfer.descriptor == descriptor,
+        Wish::Ending { .. } => false,
+        Wish::AnyEnding => false,
+        Wish::Nothing => false,
+    }
+}
+
 /// Whether a task is one that is looked for.
 fn is_sought(table: &Devices, sought: Sought, task: u8) -> bool
     ensures { result ≡ is_sought table.now sought task }
@@ -128,6 +142,7 @@ fn is_sought(table: &Devices, sought: Sought, task: u8) -> bool
         Sought::AnyEnding => wants_any(wish),
         Sought::EndingOf(id) => wants(wish, id),
         Sought::Staying(descriptor) => will_stay(wish, descriptor),
+        Sought::Asking(descriptor) => is_of(wish, descriptor),
         Sought::Fulfilled(descriptor) => picked(table, descriptor, wish).is_some(),
     }
 }
