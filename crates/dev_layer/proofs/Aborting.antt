@@ -1,20 +1,26 @@
 -- Waits on a descriptor end one after another.
-use Rattle.std.proofs.Common.{◌≡◌, ℕ, zero, suc, ◌+◌, ◌≤◌, ◌<◌, Bool, true, false, not, cond, List, [], ◌∷◌, Option, Some, None, refl, ap, sym, ◌∙◌, subst, arith, length}
+use Rattle.std.proofs.Common.{◌≡◌, ℕ, suc, ◌≤◌, ◌<◌, Bool, true, false, not, cond, List, [], ◌∷◌, Option, Some, None, refl, ap, sym, ◌∙◌, subst, arith, length}
 use Rattle.std.specs.Bool.{◌==◌}
-use Rattle.std.specs.List.{find, fold}
-use Rattle.std.specs.Prelude.{drop, filter, ◌||◌, ◌&&◌}
+use Rattle.std.specs.List.{find, fold, position}
+use Rattle.std.specs.Option.{option_map}
+use Rattle.std.specs.Prelude.{drop, filter, if◌then◌else◌, nat_le, slice_get, unwrap_or, ◌||◌, ◌&&◌}
+use Rattle.tk_types.specs.declared.task.Order.TheVariants.{Fifo}
+use Rattle.kernel_base.specs.Views.{view_in}
+use Rattle.mail_buffer.proofs.Ending.{release_alike}
 use Rattle.std.proofs.lemmas.Bool.Decides.{nat_tests}
 use Rattle.tk_types.specs.declared.answer.Answer.{Answer}
 use Rattle.tk_types.specs.declared.task.Phase.{Phase}
 use Rattle.tk_types.specs.declared.task.Phase.TheVariants.{Dormant, Ready, Waiting}
 use Rattle.tk_types.specs.declared.task.Task.{Task}
 use Rattle.kernel_model.specs.Words.Orders.{without}
-use Rattle.kernel_model.specs.Tasks.Base.{Base, is_waiting, is_waiting_phase, release, task_at, waiting_in, waits_for, waits_in, waits_somewhere}
+use Rattle.kernel_model.specs.Tasks.Base.{Base, fifo_queue, is_waiting, is_waiting_phase, release, task_at, waiting_in, waits_for, waits_in, waits_somewhere}
 use Rattle.kernel_lemmas.proofs.Filters.{filter_fails}
 use Rattle.kernel_lemmas.proofs.Releases.{release_idle, release_others, release_over}
 use Rattle.kernel_lemmas.proofs.Tables.{entry_cases}
 use Rattle.device_model.specs.Devices.Calls.{aborted}
-use Rattle.dev_layer.specs.Closing.{waits_at}
+use Rattle.dev_layer.specs.Closing.{earlier, place_of, since_in, waits_at}
+use Rattle.dev_layer.specs.Parts.{AreQueued}
+use Rattle.dev_layer.proofs.Earlier.{earlier_in, first_of_either, found_passes, found_within, head_found}
 
 since_if : (b : Base) (c : Base) (waiting : Bool) → c.since ≡ b.since → (cond waiting c b).since ≡ b.since
 since_if b c true same = same
@@ -33,7 +39,7 @@ idle_slot : (object : ℕ) (slot : Option Task) → waits_somewhere slot ≡ fal
 idle_slot object None idle = refl
 idle_slot object (Some k) idle = idle_phase object k.phase idle
 
-idle_for : (b : Base) (object t : ℕ) → is_waiting b t ≡ false → waits_for b object t ≡ false
+pub idle_for : (b : Base) (object t : ℕ) → is_waiting b t ≡ false → waits_for b object t ≡ false
 idle_for b object t idle = idle_slot object (task_at b t) idle
 
 no_more : (ending acceptance : ℕ) (passes : ℕ → Bool) (b : Base) (t : ℕ) → is_waiting b t ≡ false → waits_at ending acceptance passes b t ≡ false
@@ -122,3 +128,57 @@ fewer_wait ending acceptance passes now next t found is =
     ∙ ap length (left_over ending acceptance passes now t _ ∙ ap (without t) (head_of (waits_at ending acceptance passes now) now.since t found) ∙ first_gone t rest) in
     let most : length (without t rest) ≤ length rest = no_longer t rest in
     omega (arith, first, after, most)
+
+-- ---- what the end of a wait keeps
+
+abbrev SameClock : Base → Base → Type 0
+SameClock b c = (c.made ≡ b.made) × (c.time ≡ b.time)
+
+clock_if : (b c : Base) (waiting : Bool) → SameClock b c → SameClock b (cond waiting c b)
+clock_if b c true same = same
+clock_if b c false same = (refl, refl)
+
+clock_kept : (b : Base) (t : ℕ) (result : Answer) → SameClock b (release b t result)
+clock_kept b t result = entry_cases (SameClock b) (task_at b t) b _ (refl, refl) (λ k there. clock_if b _ (is_waiting_phase k.phase) (refl, refl))
+
+pub made_kept : (b : Base) (t : ℕ) (result : Answer) → (release b t result).made ≡ b.made
+made_kept b t result = (clock_kept b t result).0
+
+pub time_kept : (b : Base) (t : ℕ) (result : Answer) → (release b t result).time ≡ b.time
+time_kept b t result = (clock_kept b t result).1
+
+-- those that are left still queue in their order
+pub still_queued : (b : Base) (t : ℕ) (result : Answer) → AreQueued b → AreQueued (release b t result)
+still_queued b t result all = record { waiters = λ object low high. release_alike Fifo b t object result (all.waiters object low high) }
+
+-- ---- who is the first
+
+place_there : (b : Base) (object t : ℕ) (slot : Option Task) → task_at b t ≡ slot → waiting_in object slot ≡ true → place_of b t ≡ unwrap_or (position (λ other. other == t) b.since) 0
+place_there b object t None there waits = absurd (cc waits)
+place_there b object t (Some k) there waits = ap (λ (o : Option Task). since_in (option_map (view_in b t) o)) there
+
+earlier_by : (b : Base) (ending acceptance : ℕ) (passes : ℕ → Bool) (one other : Option ℕ) → find (waits_for b ending) b.since ≡ one → find (λ t. waits_for b acceptance t && passes t) b.since ≡ other →
+    earlier b one other ≡ earlier_in b.since one other
+earlier_by b ending acceptance passes None other found found_too = refl
+earlier_by b ending acceptance passes (Some one) None found found_too = refl
+earlier_by b ending acceptance passes (Some one) (Some other) found found_too =
+    let first : waits_for b ending one ≡ true = found_passes (waits_for b ending) b.since one found in
+    let both : (waits_for b acceptance other && passes other) ≡ true = found_passes (λ t. waits_for b acceptance t && passes t) b.since other found_too in
+    let second : waits_for b acceptance other ≡ true = first_of (waits_for b acceptance other) (passes other) both in
+    ap (λ (n : ℕ). if nat_le n (place_of b other) then Some one else Some other) (place_there b ending one (task_at b one) refl first)
+    ∙ ap (λ (n : ℕ). if nat_le (unwrap_or (position (λ u. u == one) b.since) 0) n then Some one else Some other) (place_there b acceptance other (task_at b other) refl second)
+  where
+    first_of : (x y : Bool) → (x && y) ≡ true → x ≡ true
+    first_of true y is = refl
+    first_of false y is = absurd (cc is)
+
+-- the earlier of the first of both queues is the first of all
+pub first_of_all : (b : Base) (ending acceptance : ℕ) (passes : ℕ → Bool) (one other : Option ℕ) → one ≡ slice_get (fifo_queue b ending) 0 → other ≡ find passes (fifo_queue b acceptance) →
+    earlier b one other ≡ find (waits_at ending acceptance passes b) b.since
+first_of_all b ending acceptance passes one other is is_too =
+    let first : find (waits_for b ending) b.since ≡ one = sym (head_found (waits_for b ending) b.since) ∙ sym is in
+    let second : find (λ t. waits_for b acceptance t && passes t) b.since ≡ other = sym (found_within (waits_for b acceptance) passes b.since) ∙ sym is_too in
+    earlier_by b ending acceptance passes one other first second
+    ∙ ap (λ o. earlier_in b.since o other) (sym first)
+    ∙ ap (λ o. earlier_in b.since (find (waits_for b ending) b.since) o) (sym second)
+    ∙ sym (first_of_either (waits_for b ending) (λ t. waits_for b acceptance t && passes t) b.since)

@@ -1,27 +1,22 @@
 -- What an arrival comes to, of the table's parts.
-use Rattle.std.proofs.Common.{◌≡◌, ℕ, Bool, true, false, cond, List, [], ◌∷◌, Option, Some, None, refl, ap, sym, ◌∙◌, subst, ◌+◌, ◌++◌}
+use Rattle.std.proofs.Common.{◌≡◌, ℕ, Bool, true, false, List, [], ◌∷◌, Option, Some, None, refl, ap, sym, ◌∙◌, ◌++◌}
 use Rattle.std.specs.Bool.{◌==◌}
-use Rattle.std.specs.Option.{is_some, option_map}
-use Rattle.std.specs.Prelude.{bytes_eq, if◌then◌else◌, slice_set, unwrap_or, ◌&&◌}
+use Rattle.std.specs.Option.{option_map}
+use Rattle.std.specs.Prelude.{bytes_eq, if◌then◌else◌, slice_set, ◌&&◌}
 use Rattle.std.proofs.lemmas.Slice.Eq.{bytes_eq-Decides}
 use Rattle.tk_types.specs.declared.line.How.{How}
-use Rattle.kernel_model.specs.Words.Orders.{entry}
-use Rattle.object_model.specs.Mails.Tables.{Mails}
-use Rattle.kernel_model.specs.Tasks.Base.{Base}
 use Rattle.device_model.specs.declared.messages.Ending.{Ending}
-use Rattle.device_model.specs.declared.messages.Request.{Request}
 use Rattle.device_model.specs.Devices.Memory.{write_bytes}
-use Rattle.device_model.specs.Devices.Endings.{DevParts, arrive, arrive_fit, arrive_given, arrive_link, arrive_row, closed, ended_at, is_allowed, is_error, is_fit, landed, says, served_of}
+use Rattle.device_model.specs.Devices.Endings.{DevParts, arrive, arrive_fit, arrive_given, arrive_link, arrive_row, closed, ended_at, is_allowed, is_error, is_fit, says, served_of}
 use Rattle.device_model.specs.Devices.Tables.{Devices, Given, Link, Row, at_driver, given_in, is_at_driver, link_at, request_in, row_at}
 use Rattle.device_model.specs.Units.Function.{Served}
 use Rattle.dev_layer.specs.Arriving.{ended_parts, expected_id, expected_row, given_ends, link_ends, request_at}
 use Rattle.dev_layer.specs.Handing.{with_parts}
 use Rattle.dev_layer.specs.Links.{ended_given, fits_given}
 use Rattle.dev_layer.specs.Messages.{allows_link, ended_entry, fits_link}
-use Rattle.dev_layer.specs.Requests.{Requests, ended_slot, request_ended}
+use Rattle.dev_layer.specs.Requests.{Requests, ended_slot}
 use Rattle.device_model.specs.declared.rows.Life.TheVariants.{Ended}
 use Rattle.dev_layer.specs.Tables.{requests_of}
-use Rattle.dev_layer.specs.Parts.{parts_of}
 use Rattle.dev_layer.specs.declared.arriving.Expected.{Expected}
 
 abbrev Both : Bool → Bool → Type 0

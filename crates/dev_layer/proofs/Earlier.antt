@@ -1,11 +1,11 @@
 -- The first that passes one of two tests is the earlier of the first that pass each.
-use Rattle.std.proofs.Common.{◌≡◌, ℕ, zero, suc, ◌+◌, ◌≤◌, ◌<◌, length, Bool, true, false, cond, List, [], ◌∷◌, Option, Some, None, refl, ap, sym, ◌∙◌, subst, arith}
+use Rattle.std.proofs.Common.{◌≡◌, ℕ, ◌+◌, ◌<◌, length, Bool, true, false, cond, List, [], ◌∷◌, Option, Some, None, refl, ap, sym, ◌∙◌, arith}
 use Rattle.std.specs.Bool.{◌==◌}
 use Rattle.std.specs.List.{find, position, position_or_len}
 use Rattle.std.specs.Prelude.{filter, nat_le, nat_lt, slice_get, unwrap_or, ◌||◌, ◌&&◌, if◌then◌else◌}
 use Rattle.std.proofs.lemmas.Bool.Decides.{nat_tests}
 
-abbrev place_in : List ℕ → ℕ → ℕ
+abbrev pub place_in : List ℕ → ℕ → ℕ
 place_in xs t = unwrap_or (position (λ other. other == t) xs) 0
 
 abbrev pub earlier_in : List ℕ → Option ℕ → Option ℕ → Option ℕ
@@ -79,9 +79,9 @@ apart_by p x a xs fails found =
     let passes : p a ≡ true = found_passes p xs a found in
     test_of x a (x == a) refl (λ same. absurd (cc (fails, passes, ap p same)))
   where
-  test_of : (n m : ℕ) (b : Bool) → (n == m) ≡ b → (n ≡ m → ⊥) → (n == m) ≡ false
-  test_of n m true is apart = absurd (apart (grind (arith, nat_tests, is)))
-  test_of n m false is apart = is
+    test_of : (n m : ℕ) (b : Bool) → (n == m) ≡ b → (n ≡ m → ⊥) → (n == m) ≡ false
+    test_of n m true is apart = absurd (apart (grind (arith, nat_tests, is)))
+    test_of n m false is apart = is
 
 one_here : (x : ℕ) (xs : List ℕ) (other : Option ℕ) → first_of_two (x ∷ xs) (Some x) other ≡ Some x
 one_here x xs None = refl

@@ -1,9 +1,9 @@
 -- Requests go to drivers, of the table's parts.
-use Rattle.std.proofs.Common.{◌≡◌, ℕ, zero, suc, ◌+◌, ◌≤◌, ◌<◌, Bool, true, false, cond, List, [], ◌∷◌, Option, Some, None, refl, ap, sym, subst, ◌∙◌, arith, length, drop, add-one}
+use Rattle.std.proofs.Common.{◌≡◌, ℕ, zero, suc, ◌+◌, ◌<◌, Bool, true, false, List, [], ◌∷◌, Option, Some, None, refl, ap, sym, ◌∙◌, arith, length, drop, add-one}
 use Rattle.std.specs.List.{find, fold}
 use Rattle.std.specs.Option.{is_some}
 use Rattle.std.specs.Bool.{◌==◌}
-use Rattle.std.specs.Prelude.{slice_set, ◌&&◌}
+use Rattle.std.specs.Prelude.{◌&&◌}
 use Rattle.kernel_model.specs.Words.Orders.{entry, taken_from}
 use Rattle.kernel_lemmas.proofs.Tables.{entry_other}
 use Rattle.device_model.specs.declared.messages.Request.{Request}
@@ -126,13 +126,13 @@ others_kept links after d request is n apart = ap (λ (all : List (Option Link))
 
 -- ---- one device after another
 
-passed_slot : {A : Type 0} (slots : List (Option A)) (place id : ℕ) → place < length slots → entry slots place ≡ None → taken_from id (drop place slots) ≡ taken_from (id + 1) (drop (suc place) slots)
+pub passed_slot : {A : Type 0} (slots : List (Option A)) (place id : ℕ) → place < length slots → entry slots place ≡ None → taken_from id (drop place slots) ≡ taken_from (id + 1) (drop (suc place) slots)
 passed_slot [] place id inside none = absurd (omega (arith, inside))
 passed_slot (None ∷ slots) zero id inside none = refl
 passed_slot (Some k ∷ slots) zero id inside none = absurd (cc none)
 passed_slot (slot ∷ slots) (suc place) id inside none = passed_slot slots place id (omega (arith, inside)) none
 
-taken_slot : {A : Type 0} (slots : List (Option A)) (place id : ℕ) → is_some (entry slots place) ≡ true → taken_from id (drop place slots) ≡ id ∷ taken_from (id + 1) (drop (suc place) slots)
+pub taken_slot : {A : Type 0} (slots : List (Option A)) (place id : ℕ) → is_some (entry slots place) ≡ true → taken_from id (drop place slots) ≡ id ∷ taken_from (id + 1) (drop (suc place) slots)
 taken_slot [] place id some = absurd (cc some)
 taken_slot (None ∷ slots) zero id some = absurd (cc some)
 taken_slot (Some k ∷ slots) zero id some = refl

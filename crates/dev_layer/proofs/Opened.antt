@@ -1,5 +1,5 @@
 -- Open descriptors are those of devices.
-use Rattle.std.proofs.Common.{◌≡◌, ℕ, zero, suc, ◌≤◌, List, [], ◌∷◌, Option, Some, None, refl, ap, sym, subst, ◌∙◌, length}
+use Rattle.std.proofs.Common.{◌≡◌, ℕ, zero, suc, ◌≤◌, List, Option, Some, None, refl, sym, subst, ◌∙◌}
 use Rattle.std.specs.Prelude.{IfSome, replicate, slice_set}
 use Rattle.std.proofs.lemmas.List.{length-set}
 use Rattle.kernel_model.specs.Words.Orders.{entry}

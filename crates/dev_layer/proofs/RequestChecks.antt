@@ -1,10 +1,9 @@
 -- What a request comes to, check by check.
-use Rattle.std.proofs.Common.{◌≡◌, ℕ, zero, suc, Bool, true, false, not, List, [], ◌∷◌, ◌++◌, Option, Some, None, refl, ap, sym, ◌∙◌, arith, subst}
+use Rattle.std.proofs.Common.{◌≡◌, ℕ, Bool, true, false, not, List, [], ◌∷◌, ◌++◌, Option, Some, None, refl, ap, ◌∙◌, arith}
 use Rattle.std.specs.Bool.{◌==◌}
 use Rattle.std.specs.Prelude.{ℤ, negsuc, IfOk, Result, Ok, Err}
 use Rattle.std.specs.Option.{is_some, option_or}
 use Rattle.std.proofs.lemmas.Bool.Decides.{nat_tests}
-use Rattle.tk_types.specs.declared.answer.Outcome.{Outcome}
 use Rattle.tk_types.specs.declared.answer.Who.{Who}
 use Rattle.tk_types.specs.declared.error_code.Er.{Er}
 use Rattle.tk_types.specs.declared.error_code.Er.TheVariants as er

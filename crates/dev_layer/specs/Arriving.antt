@@ -1,7 +1,6 @@
 -- What an ending makes of the table.
 use Rattle.std.specs.Prelude.{ℕ, Option, Some, None, if◌then◌else◌, slice_set}
 use Rattle.tk_types.specs.declared.line.How.{How}
-use Rattle.kernel_model.specs.Words.Orders.{entry}
 use Rattle.device_model.specs.Devices.Endings.{served_of}
 use Rattle.device_model.specs.Devices.Tables.{Devices, Given, Link, Row, at_driver, is_at_driver, link_at, row_at}
 use Rattle.dev_layer.specs.declared.arriving.Expected.{Expected}

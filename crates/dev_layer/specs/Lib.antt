@@ -8,3 +8,4 @@ pub mod Arriving
 pub mod Accepting
 pub mod Waiters
 pub mod Closing
+pub mod Serving

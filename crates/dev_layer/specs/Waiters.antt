@@ -1,5 +1,5 @@
 -- What is looked for among those that wait.
-use Rattle.std.specs.Prelude.{ℕ, Bool, Option, Some, None}
+use Rattle.std.specs.Prelude.{ℕ, Bool}
 use Rattle.std.specs.Option.{is_some}
 use Rattle.device_model.specs.Devices.Calls.{wants, wants_any, will_stay, wish_is_of}
 use Rattle.device_model.specs.Devices.Requests.{picked}

@@ -3,7 +3,9 @@
 
 mod accepting;
 mod arriving;
+mod calls;
 mod closing;
+mod firsts;
 mod handing;
 mod ids;
 mod link;
@@ -13,11 +15,15 @@ mod requesting;
 mod requests;
 mod rows;
 mod serving;
+mod suspending;
 mod table;
 mod units;
 mod waiters;
 mod waiting;
 
 pub use arriving::arrive;
+pub use calls::call;
+pub use firsts::{serve, serve_first_acceptance, serve_first_close, serve_first_ending};
 pub use handing::hand_over;
+pub use suspending::serve_suspension;
 pub use table::{Devices, at_driver, expected, first_queued, messages};

@@ -13,7 +13,7 @@ use kernel_base::answers::{done, failed};
 use tk_types::{Er, OpenMode, Outcome};
 
 /// Whether exactly one of three words is given.
-fn one_of_three(a: bool, b: bool, c: bool) -> bool
+pub(crate) fn one_of_three(a: bool, b: bool, c: bool) -> bool
     ensures { result ≡ one_of_three a b c }
 {
     a && !(b || c) || !a && (b && !c || !b && c)

@@ -11,7 +11,9 @@ ghost use Rattle.dev_layer.specs.Parts.{AreQueued, parts_of};
 use crate::accepting::accept;
 use crate::requesting::claimed;
 use crate::table::{Devices, at_driver};
-use crate::waiters::{Sought, acceptance_object, close_object, ending_object, find_waiter, first_waiter, picked};
+use crate::waiters::{
+    Sought, acceptance_object, close_object, ending_object, find_waiter, first_waiter, picked,
+};
 use device_model::rows::Wish;
 use kernel_base::answers::plain;
 use kernel_base::{Base, Order};

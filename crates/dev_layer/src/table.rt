@@ -232,6 +232,13 @@ impl Devices {
         self.opened[descriptor as usize]
     }
 
+    /// States, at no cost, that there is a slot for each descriptor.
+    pub(crate) fn known_of_descriptors(&self)
+        ensures { length self.now.opened ≡ 33 }
+    {
+        let _opened = &self.opened;
+    }
+
     /// The descriptors by their numbers.
     pub(crate) fn descriptors(&self) -> &[Option<Opened>]
         ensures slots { result.now ≡ self.now.opened }

@@ -1,4 +1,4 @@
-use Rattle.std.proofs.Common.{◌≡◌, sym, ◌∙◌, rules}
+use Rattle.std.proofs.Common.{sym, ◌∙◌, rules}
 use Rattle.dev_layer.proofs.Bytes.{number_four}
 use Rattle.dev_layer.proofs.accepting.number_of.Goals as goal
 

@@ -1,11 +1,10 @@
-use Rattle.std.proofs.Common.{◌≡◌, ℕ, List, Option, Some, None, true, ap, sym, ◌∙◌}
+use Rattle.std.proofs.Common.{◌≡◌, ℕ, List, Some, None, ap, sym, ◌∙◌}
 use Rattle.std.specs.Option.{is_some, option_map}
 use Rattle.std.specs.Prelude.{unwrap_or}
 use Rattle.device_model.specs.Devices.Endings.{DevParts, arrive, closed}
 use Rattle.device_model.specs.Devices.Memory.{write_bytes}
 use Rattle.device_model.specs.Devices.Tables.{Devices, link_at}
 use Rattle.dev_layer.specs.Arriving.{ended_parts}
-use Rattle.dev_layer.specs.Messages.{allows_link}
 use Rattle.dev_layer.specs.Parts.{parts_of}
 use Rattle.dev_layer.proofs.Arrivals.{allows_fit, arrived_at, fit_arrives}
 use Rattle.dev_layer.proofs.arriving.arrive.Goals as goal

@@ -1,6 +1,4 @@
-use Rattle.std.proofs.Common.{◌≡◌, ◌+◌, ◌-◌, ◌≤◌, ℕ, List, ap, sym, ◌∙◌, arith, rules, length, take}
-use Rattle.std.specs.Prelude.{min}
-use Rattle.std.proofs.lemmas.List.{take_all}
+use Rattle.std.proofs.Common.{◌≡◌, ◌+◌, ◌-◌, ℕ, ap, sym, ◌∙◌, arith, length, take}
 use Rattle.task_machine.specs.Bytes.{with_run}
 use Rattle.dev_layer.proofs.Bytes.{take_least, write_beyond, write_run}
 use Rattle.dev_layer.proofs.arriving.land.Goals as goal

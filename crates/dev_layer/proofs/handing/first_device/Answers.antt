@@ -1,4 +1,4 @@
-use Rattle.std.proofs.Common.{◌≡◌, ◌<◌, ℕ, ap, sym, ◌∙◌, arith, length}
+use Rattle.std.proofs.Common.{◌<◌, sym, ◌∙◌, arith, length}
 use Rattle.std.specs.Option.{is_some}
 use Rattle.dev_layer.specs.Requests.{first_waiting}
 use Rattle.dev_layer.proofs.Handed.{further_first, here_first}

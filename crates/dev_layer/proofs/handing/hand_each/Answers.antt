@@ -1,5 +1,4 @@
-use Rattle.std.proofs.Common.{◌≡◌, ◌+◌, ◌≤◌, ◌<◌, ℕ, ap, sym, ◌∙◌, arith, refl, subst, length}
-use Rattle.kernel_model.specs.Words.Orders.{entry}
+use Rattle.std.proofs.Common.{◌<◌, sym, ◌∙◌, arith, refl, length}
 use Rattle.device_model.specs.Devices.Handing.{handed_all}
 use Rattle.device_model.specs.Devices.Tables.{device_ids}
 use Rattle.dev_layer.specs.Handing.{with_parts}

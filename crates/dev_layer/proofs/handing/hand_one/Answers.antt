@@ -1,11 +1,9 @@
-use Rattle.std.proofs.Common.{◌≡◌, ◌+◌, ℕ, Some, None, true, false, ap, sym, ◌∙◌, rules}
-use Rattle.std.specs.Option.{is_some}
+use Rattle.std.proofs.Common.{◌≡◌, ◌+◌, ℕ, Some, true, ap, sym, ◌∙◌}
 use Rattle.kernel_model.specs.Words.Orders.{entry}
-use Rattle.device_model.specs.Devices.Handing.{has_given}
 use Rattle.device_model.specs.Devices.Tables.{Row, request_of}
 use Rattle.dev_layer.specs.Messages.{number_in}
 use Rattle.dev_layer.specs.Requests.{first_waiting, queues_some}
-use Rattle.dev_layer.proofs.Handed.{busy_handed, first_handed, given_none, idle_handed, none_handed, others_kept, waits_there}
+use Rattle.dev_layer.proofs.Handed.{busy_handed, first_handed, idle_handed, none_handed, others_kept, waits_there}
 use Rattle.dev_layer.proofs.Slots.{not_some}
 use Rattle.dev_layer.proofs.handing.hand_one.Goals as goal
 

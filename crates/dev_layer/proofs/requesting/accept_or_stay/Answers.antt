@@ -3,7 +3,6 @@ use Rattle.std.specs.Option.{is_some}
 use Rattle.device_model.specs.Devices.Endings.{DevParts}
 use Rattle.device_model.specs.Devices.Requests.{accept, has_place}
 use Rattle.device_model.specs.Devices.Calls.{claim}
-use Rattle.device_model.specs.Devices.Tables.{free_request}
 use Rattle.dev_layer.specs.Parts.{parts_of}
 use Rattle.dev_layer.proofs.RequestChecks.{stays_full, stays_not, stays_there}
 use Rattle.dev_layer.proofs.requesting.accept_or_stay.Goals as goal

@@ -1,4 +1,4 @@
-use Rattle.std.proofs.Common.{◌≡◌, true, rules, arith, sym, ◌∙◌}
+use Rattle.std.proofs.Common.{◌≡◌, true, rules}
 use Rattle.std.specs.Prelude.{int_le, negsuc}
 use Rattle.tk_types.specs.declared.error_code.Er.TheVariants as er
 use Rattle.kernel_model.specs.Words.Checks.{within}

@@ -1,7 +1,7 @@
 use mir.Val.{to_z, of_z}
 use mir.Syntax.{w32}
 use Rattle.std.proofs.lemmas.Int.{to_z-of_z}
-use Rattle.std.proofs.Common.{◌≡◌, ℕ, Bool, Some, None, ap, sym, ◌∙◌, arith, subst, rules}
+use Rattle.std.proofs.Common.{◌≡◌, ℕ, Some, None, ap, sym, ◌∙◌, arith}
 use Rattle.tk_types.specs.declared.answer.Outcome.{Outcome}
 use Rattle.kernel_model.specs.Words.Checks.{first_error, natural}
 use Rattle.kernel_model.specs.Tasks.Calls.{caller}

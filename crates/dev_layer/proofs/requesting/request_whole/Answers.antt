@@ -1,6 +1,5 @@
-use Rattle.std.proofs.Common.{◌≡◌, ℕ, Bool, Some, None, false, ap, sym, ◌∙◌, arith, subst, rules}
+use Rattle.std.proofs.Common.{◌≡◌, ℕ, Some, None, false, ap, sym, ◌∙◌, arith}
 use Rattle.std.specs.List.{list_any}
-use Rattle.std.specs.Prelude.{negsuc}
 use Rattle.tk_types.specs.declared.answer.Outcome.{Outcome}
 use Rattle.kernel_model.specs.Words.Checks.{first_error, natural}
 use Rattle.kernel_model.specs.Tasks.Base.{fifo_queue}

@@ -1,13 +1,11 @@
-use Rattle.std.proofs.Common.{◌≡◌, ℕ, Bool, Some, ap, sym, ◌∙◌, refl}
+use Rattle.std.proofs.Common.{◌≡◌, ℕ, Bool, Some, ap, sym, ◌∙◌}
 use Rattle.std.specs.List.{find}
 use Rattle.std.specs.Option.{is_some}
 use Rattle.std.specs.Prelude.{unwrap_or}
-use Rattle.tk_types.specs.declared.answer.Answer.{Answer}
 use Rattle.kernel_model.specs.Tasks.Base.{Base, fifo_queue, release}
-use Rattle.device_model.specs.declared.rows.Wish.{Wish}
 use Rattle.device_model.specs.Devices.Endings.{DevParts}
 use Rattle.device_model.specs.Devices.Requests.{claimed, ending_object, is_own, picked}
-use Rattle.device_model.specs.Devices.Tables.{Devices, dropped, wish_of}
+use Rattle.device_model.specs.Devices.Tables.{Devices, wish_of}
 use Rattle.dev_layer.specs.Parts.{parts_of}
 use Rattle.dev_layer.proofs.Served.{ending_is_served}
 use Rattle.dev_layer.proofs.serving.serve_ending.Goals as goal

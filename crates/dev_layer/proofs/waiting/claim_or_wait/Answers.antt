@@ -1,5 +1,3 @@
-use mir.Val.{to_z, of_z}
-use mir.Syntax.{w32}
 use Rattle.std.proofs.Common.{sym, ◌∙◌}
 use Rattle.dev_layer.specs.Parts.{parts_of}
 use Rattle.dev_layer.proofs.WaitChecks.{claims}

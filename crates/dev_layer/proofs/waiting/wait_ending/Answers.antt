@@ -1,11 +1,9 @@
 use mir.Val.{to_z, of_z}
 use mir.Syntax.{w32}
 use Rattle.std.proofs.lemmas.Int.{to_z-of_z}
-use Rattle.std.proofs.Common.{◌≡◌, ℕ, Option, Some, None, true, false, ap, sym, ◌∙◌}
+use Rattle.std.proofs.Common.{◌≡◌, ℕ, Some, None, true, false, ap, sym, ◌∙◌}
 use Rattle.std.specs.Prelude.{ℤ}
-use Rattle.tk_types.specs.declared.error_code.Er.{Er}
-use Rattle.tk_types.specs.declared.error_code.Er.TheVariants as er
-use Rattle.kernel_model.specs.Words.Checks.{failed, first_error, natural}
+use Rattle.kernel_model.specs.Words.Checks.{first_error, natural}
 use Rattle.kernel_model.specs.Tasks.Calls.{caller}
 use Rattle.device_model.specs.declared.rows.Wish.{Wish}
 use Rattle.device_model.specs.Devices.Endings.{DevParts}

@@ -1,6 +1,5 @@
-use Rattle.std.proofs.Common.{◌≡◌, List, Option, Some, None, ap, sym, ◌∙◌, rules, refl}
-use Rattle.std.specs.List.{find}
-use Rattle.device_model.specs.Devices.Tables.{Devices, Link, handed}
+use Rattle.std.proofs.Common.{◌≡◌, ap, sym, ◌∙◌, refl}
+use Rattle.device_model.specs.Devices.Tables.{Devices, handed}
 use Rattle.device_model.specs.Devices.Handing.{hand_first}
 use Rattle.dev_layer.specs.Handing.{with_parts}
 use Rattle.dev_layer.proofs.Handed.{first_goes, none_goes}

@@ -1,4 +1,4 @@
-use Rattle.std.proofs.Common.{◌≡◌, None, ap, ◌∙◌, length, replicate, rules, refl}
+use Rattle.std.proofs.Common.{◌≡◌, None, ap, length, replicate, rules}
 use Rattle.device_model.specs.declared.rows.Wish.TheVariants.{Nothing}
 use Rattle.dev_layer.proofs.Opened.{none_fit}
 use Rattle.dev_layer.proofs.table.Devices.new.Goals as goal

@@ -1,4 +1,4 @@
-use Rattle.std.proofs.Common.{◌≡◌, ◌<◌, length, arith}
+use Rattle.std.proofs.Common.{◌<◌, length, arith}
 use Rattle.dev_layer.proofs.Opened.{high_at, low_at}
 use Rattle.dev_layer.proofs.Slots.{there_at}
 use Rattle.dev_layer.proofs.table.Devices.opened.Goals as goal
