@@ -1,0 +1,11 @@
+pub mod Links
+pub mod Messages
+pub mod Requests
+pub mod Tables
+pub mod Handing
+pub mod Parts
+pub mod Arriving
+pub mod Accepting
+pub mod Waiters
+pub mod Closing
+pub mod Serving
