@@ -141,9 +141,10 @@ pub fn preempted_task_keeps_its_place()
 ///
 /// So it is through settling (`settled`), all that follows an event (`follows`), the arrival of an ending (`arrives`), and any
 /// call but on tasks, made by anybody, with all that follows it (`calls`, `calls_follow`); through one on tasks that ends nobody,
-/// but where it rotates the tasks of its very priority or changes its own (`task_calls_follow`). Through a whole tick (`tick`),
-/// while a task that ended frees its mutexes (`freed`), and through a whole step in which no body goes on (`step`), where before
-/// that its priority isn't above that of its definition.
+/// but where it rotates the tasks of its very priority or changes its own (`task_calls_follow`). Where before it the task's
+/// priority isn't above that of its definition, so it is also through a call that ends another task, and through that one's
+/// mutexes, which are freed (`ends_follow`, `freed`); through a whole tick (`tick`); and through a whole step in which no body
+/// goes on (`step`).
 ///
 /// What is asked of the parts, and that priorities are those of their definitions, holds in every state that a machine comes to
 /// (`reached`); a call leaves the former (`formed`).
@@ -172,6 +173,11 @@ pub fn an_owner_keeps_its_place()
         ((priority : ℤ) → call ≡ tasks.RotRdq priority → rotated_priority st.base priority ≡ current st.base t → ⊥) →
         ((task priority : ℤ) → call ≡ tasks.ChgPri task priority → named (who_of caller) task ≡ t → ⊥) → ended_in caller call ≡ 0 →
         task_at (task_call_beside st.base st.objects.mutexes (who_of caller) call).base t ≡ task_at st.base t →
+        current (followed script mode n (called mode n st caller (calls.Task call)).state).state.base t ≡ current st.base t →
+        KeepsPlace (followed script mode n (called mode n st caller (calls.Task call)).state).state.base t }
+    ensures ends_follow { (script : Script) (mode : Mode) (n : ℕ) (st : State) (caller : ℕ) (call : TaskCall) (t : ℕ) → 1 ≤ t → IsFormed (parts_of st) →
+        KeepsPlace st.base t → is_ready st.base t ≡ true → current st.base t ≤ current_of st.base st.objects.mutexes t →
+        (ended_in caller call ≡ 0 → ⊥) → (ended_in caller call ≡ t → ⊥) →
         current (followed script mode n (called mode n st caller (calls.Task call)).state).state.base t ≡ current st.base t →
         KeepsPlace (followed script mode n (called mode n st caller (calls.Task call)).state).state.base t }
     ensures tick { (mode : Mode) (n : ℕ) (st : State) (t : ℕ) → 1 ≤ t → IsFormed (parts_of st) → KeepsPlace st.base t → is_ready st.base t ≡ true →

@@ -45,11 +45,10 @@ lends_still t p q lags passes holds =
       nexts = λ u. next_if t u p q (next_in_chain p.base p.objects.mutexes u == 0) refl lags passes holds;
       itself = passes.owns t lags.least;
       others = λ u one lends. passes.owns u one;
-      ids = sym passes.same.ids;
     }
 
 pub served_alike : (t : ℕ) (p q : Parts) → Lags t p → Passes t p q → OwnedHold p q → current_of q.base q.objects.mutexes t ≡ current_of p.base p.objects.mutexes t
 served_alike t p q lags passes holds =
     let up = passes.defined in
-    let down = current_less q.base p.base q.objects.mutexes p.objects.mutexes t (lends_still t p q lags passes holds) in
+    let down = current_less q.base p.base q.objects.mutexes p.objects.mutexes t (lends_still t p q lags passes holds) (sym passes.same.ids) in
     omega (arith, up, down)

@@ -7,7 +7,7 @@ use Rattle.std.proofs.lemmas.Bool.Decides.{nat_tests}
 use Rattle.tk_types.specs.declared.task.Task.{Task}
 use Rattle.kernel_model.specs.Words.Orders.{entry, taken_from}
 use Rattle.kernel_model.specs.Tasks.Base.{Base, base_in, base_of, task_at}
-use Rattle.kernel_lemmas.proofs.Tables.{entry_each, entry_there}
+use Rattle.kernel_lemmas.proofs.Tables.{entry_each, entry_other, entry_same, entry_there}
 use Rattle.object_model.specs.Mutexes.Tables.{Mutexes, awaited_in, held, mutex_at}
 use Rattle.object_model.specs.Mutexes.Priority.{capped, chain_has, current_of, heir_in, is_alive, lends_to, lowered, next_in_chain, own, under}
 use Rattle.mutex_laws.proofs.Least.{alive_if}
@@ -71,7 +71,6 @@ pub record LendsLess (b c : Base) (m n : Mutexes) (t : ℕ) : Type 0 where
   pub nexts : GoesNoFurther (next_in_chain b m) (next_in_chain c n) t
   pub itself : own b m t ≤ own c n t
   pub others : (u : ℕ) → 1 ≤ u → lends_to c n t u ≡ true → own b m u ≤ own c n u
-  pub ids : taken_from 1 (drop 1 c.tasks) ≡ taken_from 1 (drop 1 b.tasks)
 
 and_true : (one other : Bool) → one ≡ true → other ≡ true → (one && other) ≡ true
 and_true true other is also = also
@@ -105,15 +104,20 @@ least_if b c m n t least larger from (Some k ∷ slots) less one under =
     least_if b c m n t (lowered b m t least from) (lowered c n t larger from) (from + 1) slots less (omega (arith, one))
     (lowered_if (own b m from) (own c n from) least larger (lends_to b m t from) (lends_to c n t from) under (lent_before b c m n t from less) (less.others from one))
 
--- then its priority by definition isn't higher, which is no lower number
-pub current_less : (b c : Base) (m n : Mutexes) (t : ℕ) → LendsLess b c m n t → current_of b m t ≤ current_of c n t
+defined_by : (b c : Base) (m n : Mutexes) (t : ℕ) → LendsLess b c m n t → fold (lowered b m t) (own b m t) (taken_from 1 (drop 1 b.tasks)) ≤ fold (lowered c n t) (own c n t) (taken_from 1 (drop 1 c.tasks)) →
+    current_of b m t ≤ current_of c n t
 unfolding current_of
-current_less b c m n t less =
+defined_by b c m n t less least =
     let before = alive_if (fold (lowered b m t) (own b m t) (taken_from 1 (drop 1 b.tasks))) (base_of b t) (is_alive (task_at b t)) less.lives in
     let now = alive_if (fold (lowered c n t) (own c n t) (taken_from 1 (drop 1 c.tasks))) (base_of c t) (is_alive (task_at c t)) less.lives_still in
+    omega (arith, before, now, least)
+
+-- then its priority by definition isn't higher, which is no lower number
+pub current_less : (b c : Base) (m n : Mutexes) (t : ℕ) → LendsLess b c m n t → taken_from 1 (drop 1 c.tasks) ≡ taken_from 1 (drop 1 b.tasks) → current_of b m t ≤ current_of c n t
+current_less b c m n t less ids =
     let least = least_if b c m n t (own b m t) (own c n t) 1 (drop 1 b.tasks) less (omega arith) less.itself in
-    let ids : fold (lowered c n t) (own c n t) (taken_from 1 (drop 1 c.tasks)) ≡ fold (lowered c n t) (own c n t) (taken_from 1 (drop 1 b.tasks)) = ap (fold (lowered c n t) (own c n t)) less.ids in
-    omega (arith, before, now, least, ids)
+    let same : fold (lowered c n t) (own c n t) (taken_from 1 (drop 1 c.tasks)) ≡ fold (lowered c n t) (own c n t) (taken_from 1 (drop 1 b.tasks)) = ap (fold (lowered c n t) (own c n t)) ids in
+    defined_by b c m n t less (omega (arith, least, same))
 
 -- ---- a row of a task that waits for no mutex
 
@@ -157,9 +161,71 @@ row_less b m t v k now at is lives none =
           (inr (inl (no_heir m (awaited_in (entry tasks v)) none (ap awaited_in here ∙ is.awaits)))) (λ u apart. inl refl);
       itself = let same = own_same t in omega (arith, same);
       others = λ u one lends. let same = own_same u in omega (arith, same);
-      ids = ids_written v b.tasks k now at;
     }
 
 -- so no task's priority is higher then
 pub row_sinks : (b : Base) (m : Mutexes) (t v : ℕ) (k now : Task) → task_at b v ≡ Some k → IsIdled k now → is_alive (task_at b t) ≡ true → mutex_at m 0 ≡ None → current_of b m t ≤ current_of (with_row b v now) m t
-row_sinks b m t v k now at is lives none = current_less b (with_row b v now) m m t (row_less b m t v k now at is lives none)
+row_sinks b m t v k now at is lives none = current_less b (with_row b v now) m m t (row_less b m t v k now at is lives none) (ids_written v b.tasks k now at)
+
+-- ---- a task that lives no more
+
+-- a slot in which no task lives is written, of another task
+abbrev pub with_slot : Base → ℕ → Option Task → Base
+with_slot b v now = record b { tasks = slice_set b.tasks v now }
+
+dead_lends_none : (alive reaches : Bool) → alive ≡ false → (alive && reaches) ≡ true → ⊥
+dead_lends_none true reaches dead is = cc dead
+dead_lends_none false reaches dead is = cc is
+
+gone_less : (b : Base) (m : Mutexes) (t v : ℕ) (now : Option Task) → (v ≡ t → ⊥) → is_alive now ≡ false → awaited_in now ≡ 0 → is_alive (task_at b t) ≡ true → mutex_at m 0 ≡ None → LendsLess b (with_slot b v now) m m t
+gone_less b m t v now apart dead idle lives none =
+    let tasks : List (Option Task) = slice_set b.tasks v now in
+    let gone : is_alive (entry tasks v) ≡ false = entry_same (λ o. is_alive o ≡ false) b.tasks v now dead refl in
+    let waits : awaited_in (entry tasks v) ≡ 0 = entry_same (λ o. awaited_in o ≡ 0) b.tasks v now idle refl in
+    let still : entry tasks t ≡ task_at b t = entry_other b.tasks v t now (λ e. apart (sym e)) in
+    record {
+      lives = lives;
+      lives_still = ap is_alive still ∙ lives;
+      alive = entry_each (λ u o. is_alive o ≡ true → is_alive (task_at b u) ≡ true) b.tasks v now (λ after. absurd (cc (gone, after))) (λ u differs after. after);
+      nexts = entry_each (λ u o. (heir_in (mutex_at m (awaited_in o)) ≡ next_in_chain b m u) ⊎ EndsShort (next_in_chain (with_slot b v now) m) t u) b.tasks v now
+          (inr (inl (no_heir m (awaited_in (entry tasks v)) none waits))) (λ u differs. inl refl);
+      itself = let same : own (with_slot b v now) m t ≡ own b m t = ap (λ o. fold (capped m) (base_in o) (held m t)) still in omega (arith, same);
+      others = λ u one lends. own_if u (u == v) refl gone (first_true (is_alive (entry tasks u)) (chain_has (next_in_chain (with_slot b v now) m) t 255 u) lends);
+    }
+  where
+    own_if : (u : ℕ) (same : Bool) → (u == v) ≡ same → is_alive (entry (slice_set b.tasks v now) v) ≡ false → is_alive (entry (slice_set b.tasks v now) u) ≡ true → own b m u ≤ own (with_slot b v now) m u
+    own_if u true at gone alive = let e : v ≡ u = grind (arith, nat_tests, at) in let there : is_alive (entry (slice_set b.tasks v now) u) ≡ false = subst (λ (w : ℕ). is_alive (entry (slice_set b.tasks v now) w) ≡ false) e gone in absurd (cc (there, alive))
+    own_if u false at gone alive =
+        let row : entry (slice_set b.tasks v now) u ≡ task_at b u = entry_other b.tasks v u now (λ e. grind (arith, nat_tests, at, e)) in
+        let same : own (with_slot b v now) m u ≡ own b m u = ap (λ o. fold (capped m) (base_in o) (held m u)) row in omega (arith, same)
+
+-- once another task is DORMANT a task's priority isn't higher
+pub dead_sinks : (b : Base) (m : Mutexes) (t v : ℕ) (k now : Task) → (v ≡ t → ⊥) → task_at b v ≡ Some k → is_alive (Some now) ≡ false → awaited_in (Some now) ≡ 0 → is_alive (task_at b t) ≡ true → mutex_at m 0 ≡ None →
+    current_of b m t ≤ current_of (with_row b v now) m t
+dead_sinks b m t v k now apart at dead idle lives none = current_less b (with_row b v now) m m t (gone_less b m t v (Some now) apart dead idle lives none) (ids_written v b.tasks k now at)
+
+lowered_below : (test : Bool) (n least larger : ℕ) → least ≤ larger → cond test (min n least) least ≤ larger
+lowered_below true n least larger under = omega (arith, under)
+lowered_below false n least larger under = under
+
+least_gone : (b c : Base) (m n : Mutexes) (t least larger from place : ℕ) (slots : List (Option Task)) → LendsLess b c m n t → 1 ≤ from → least ≤ larger →
+    fold (lowered b m t) least (taken_from from slots) ≤ fold (lowered c n t) larger (taken_from from (slice_set slots place None))
+least_gone b c m n t least larger from place [] less one under = under
+least_gone b c m n t least larger from zero (None ∷ slots) less one under = least_if b c m n t least larger (from + 1) slots less (omega (arith, one)) under
+least_gone b c m n t least larger from zero (Some k ∷ slots) less one under =
+    least_if b c m n t (lowered b m t least from) larger (from + 1) slots less (omega (arith, one)) (lowered_below (lends_to b m t from) (own b m from) least larger under)
+least_gone b c m n t least larger from (suc place) (None ∷ slots) less one under = least_gone b c m n t least larger (from + 1) place slots less (omega (arith, one)) under
+least_gone b c m n t least larger from (suc place) (Some k ∷ slots) less one under =
+    least_gone b c m n t (lowered b m t least from) (lowered c n t larger from) (from + 1) place slots less (omega (arith, one))
+    (lowered_if (own b m from) (own c n from) least larger (lends_to b m t from) (lends_to c n t from) under (lent_before b c m n t from less) (less.others from one))
+
+dropped_gone : (b c : Base) (m n : Mutexes) (t v : ℕ) (tasks : List (Option Task)) → LendsLess b c m n t →
+    fold (lowered b m t) (own b m t) (taken_from 1 (drop 1 tasks)) ≤ fold (lowered c n t) (own c n t) (taken_from 1 (drop 1 (slice_set tasks v None)))
+dropped_gone b c m n t v [] less = less.itself
+dropped_gone b c m n t zero (slot ∷ tasks) less = least_if b c m n t (own b m t) (own c n t) 1 tasks less (omega arith) less.itself
+dropped_gone b c m n t (suc place) (slot ∷ tasks) less = least_gone b c m n t (own b m t) (own c n t) 1 place tasks less (omega arith) less.itself
+
+-- nor is it once another task is deleted
+pub gone_sinks : (b : Base) (m : Mutexes) (t v : ℕ) → (v ≡ t → ⊥) → is_alive (task_at b t) ≡ true → mutex_at m 0 ≡ None → current_of b m t ≤ current_of (with_slot b v None) m t
+gone_sinks b m t v apart lives none =
+    let less = gone_less b m t v None apart refl refl lives none in defined_by b (with_slot b v None) m m t less (dropped_gone b (with_slot b v None) m m t v b.tasks less)

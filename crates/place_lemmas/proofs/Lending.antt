@@ -115,13 +115,12 @@ lock_less b m t id w k one at free apart idle lives none =
           (subst (HeirEnds b m now t id) (sym (entry_there m.table id k row at)) (new_heir b m now t id w k.inherits apart alone)) (λ j differs. inl refl) (awaited b u);
       itself = let same = locked_own b m id w t k at free (λ e. apart (sym e)) one in omega (arith, same);
       others = λ u least lends. let same = by_owner u least lends in omega (arith, same);
-      ids = refl;
     }
 
 -- once another task that waits for none owns a mutex that was free, a task's priority isn't higher
 pub lock_sinks : (b : Base) (m : Mutexes) (t id w : ℕ) (k : Mutex) → 1 ≤ t → mutex_at m id ≡ Some k → k.owner ≡ 0 → (w ≡ t → ⊥) → awaited b w ≡ 0 → is_alive (task_at b t) ≡ true → mutex_at m 0 ≡ None →
     current_of b m t ≤ current_of b (locked m id k w) t
-lock_sinks b m t id w k one at free apart idle lives none = current_less b b m (locked m id k w) t (lock_less b m t id w k one at free apart idle lives none)
+lock_sinks b m t id w k one at free apart idle lives none = current_less b b m (locked m id k w) t (lock_less b m t id w k one at free apart idle lives none) refl
 
 -- and there is no mutex 0 then
 pub locked_none : (m : Mutexes) (id w : ℕ) (k : Mutex) → mutex_at m id ≡ Some k → mutex_at m 0 ≡ None → mutex_at (locked m id k w) 0 ≡ None
@@ -169,12 +168,11 @@ free_less b m t id lives = record {
       (λ j differs. inl refl) (awaited b u);
   itself = freed_own b m id t;
   others = λ u least lends. freed_own b m id u;
-  ids = refl;
 }
 
 -- once a mutex is free a task's priority isn't higher
 pub free_sinks : (b : Base) (m : Mutexes) (t id : ℕ) → is_alive (task_at b t) ≡ true → current_of b m t ≤ current_of b (freed m id) t
-free_sinks b m t id lives = current_less b b m (freed m id) t (free_less b m t id lives)
+free_sinks b m t id lives = current_less b b m (freed m id) t (free_less b m t id lives) refl
 
 freed_slot : (m : Mutexes) (id : ℕ) (same : Bool) → (0 == id) ≡ same → mutex_at m 0 ≡ None → mutex_at (freed m id) 0 ≡ None
 freed_slot m id true at none =

@@ -19,3 +19,4 @@ pub mod Lending
 pub mod Sinks
 pub mod SinkEvents
 pub mod Exact
+pub mod SinkEnds

@@ -111,7 +111,7 @@ sinks_tick t mode n st lags =
 
 -- ---- handlers
 
-sinks_flagged : (t : ℕ) (p : Parts) (flags : Flags) → Lags t p → Sinks t p (record p { base = set_flags p.base flags })
+pub sinks_flagged : (t : ℕ) (p : Parts) (flags : Flags) → Lags t p → Sinks t p (record p { base = set_flags p.base flags })
 sinks_flagged t p flags lags = sinks_seen t p (set_flags p.base flags) refl refl lags
 
 sinks_due_begun : (t n : ℕ) (st : State) (what : DueKind) → Lags t (parts_of st) → SinksTo t st (due_begun n st what).state

@@ -1,5 +1,6 @@
 use Rattle.machine_model.specs.States.State.{parts_of}
 use Rattle.machine_lemmas.proofs.ReachedRest.{reached_rest}
+use Rattle.place_lemmas.proofs.SinkEnds.{sinks_ended}
 use Rattle.place_lemmas.proofs.SinkEvents.{sinks_holdings, sinks_tick, sinks_worked}
 use Rattle.machine_laws.proofs.Owners.{arrived_owner, called_followed_owner, called_formed, called_owner, followed_owner, lags_of, reached_formed, settled_defined, settled_owner, task_followed_owner}
 use Rattle.machine_laws.proofs.places.an_owner_keeps_its_place.Goals as goal
@@ -31,6 +32,10 @@ returns-clause-calls_follow c = called_followed_owner
 pub returns-clause-task_calls_follow : goal.returns-clause-task_calls_follow
 returns-clause-task_calls_follow c = λ script mode n st caller call t one is place ready rotates changes nobody row same.
     task_followed_owner script mode n st caller call t one is place ready (record { rotates = rotates; changes = changes }) nobody row same
+
+pub returns-clause-ends_follow : goal.returns-clause-ends_follow
+returns-clause-ends_follow c = λ script mode n st caller call t one is place ready lag some apart same.
+    (sinks_ended t script mode n st caller call some apart (lags_of t (parts_of st) one is ready lag)).place place same
 
 pub returns-clause-tick : goal.returns-clause-tick
 returns-clause-tick c = λ mode n st t one is place ready lag same. (sinks_tick t mode n st (lags_of t (parts_of st) one is ready lag)).place place same
