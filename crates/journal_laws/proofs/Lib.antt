@@ -1,2 +1,10 @@
 pub mod Quiet
 pub mod Feeding
+pub mod Asks
+pub mod Unended
+pub mod OwedDevices
+pub mod OwedServings
+pub mod OwedEvents
+pub mod Paces
+pub mod FedTurns
+pub mod WholeTurns

@@ -431,15 +431,22 @@ served_hold t id p short least most has =
     (λ l waits. record { waits = waits; owned = has.owned }))
     tt)))))))))
 
+-- ---- one serving
+
+holds_there : (t id : ℕ) (q : Parts) (found : Option Parts) → found ≡ Some q → IfServed (PartsHold t id) found → PartsHold t id q
+holds_there t id q None is kept = absurd (cc is)
+holds_there t id q (Some r) is kept = let same : r ≡ q = cc is in subst (PartsHold t id) same kept
+
+-- the task waits on through a serving
+pub served_waits : (t id : ℕ) (p q : Parts) → AllShort p → 1 ≤ id → id ≤ 64 → waits_for p.base (mutex_object id) t ≡ true → (owner_of p.objects.mutexes id ≡ 0 → ⊥) → serve_object p ≡ Some q →
+    waits_for q.base (mutex_object id) t ≡ true
+served_waits t id p q short least most waits owned is = (holds_there t id q (serve_object p) is (served_hold t id p short least most (record { waits = waits; owned = owned }))).waits
+
 -- ---- all settles
 
 record StillWaits (t id : ℕ) (p : Parts) : Type 0 where
   holds : PartsHold t id p
   short : AllShort p
-
-holds_there : (t id : ℕ) (q : Parts) (found : Option Parts) → found ≡ Some q → IfServed (PartsHold t id) found → PartsHold t id q
-holds_there t id q None is kept = absurd (cc is)
-holds_there t id q (Some r) is kept = let same : r ≡ q = cc is in subst (PartsHold t id) same kept
 
 handed_waits : (t id : ℕ) (mode : Mode) (p : Parts) → StillWaits t id p → StillWaits t id (handed mode p)
 handed_waits t id modes.Sync p has = has

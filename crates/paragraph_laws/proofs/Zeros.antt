@@ -376,7 +376,7 @@ serve_mutexes_in : (b : Base) (m : Mutexes) → NoMutex m → IfServed (λ (left
 unfolding serve_mutexes serve_mutex
 serve_mutexes_in b m none = first_kept (λ (left : MutexParts). NoMutex left.table) (serve_mutex b m) (taken_from 1 (drop 1 m.table)) (λ id. serve_mutex_in b m id (mutex_at m id) refl none)
 
-abbrev NoneServed : Parts → Type 0
+abbrev pub NoneServed : Parts → Type 0
 NoneServed p = NoMutex p.objects.mutexes
 
 mapped_none : {A : Type 0} → (put : A → Parts) (served : Option A) → ((left : A) → NoneServed (put left)) → IfServed NoneServed (option_map put served)
@@ -412,10 +412,10 @@ there_none q (Some r) is kept = let same : r ≡ q = cc is in subst NoneServed s
 
 -- ---- every event
 
-record HasNone (p : Parts) : Type 0 where
-  base : HasNoZero p.base
-  mutexes : NoneServed p
-  few : FewDevices p
+pub record HasNone (p : Parts) : Type 0 where
+  pub base : HasNoZero p.base
+  pub mutexes : NoneServed p
+  pub few : FewDevices p
 
 again_rows : (b : Base) (what : Event) (slot : Option CyclicRow) → HasNoZero b → HasNoZero (again_in b what slot)
 again_rows b what None has = has
@@ -435,7 +435,7 @@ handed_none : (mode : Mode) (p : Parts) → HasNone p → HasNone (handed mode p
 handed_none modes.Sync p has = has
 handed_none modes.Free p has = record { base = has.base; mutexes = has.mutexes; few = few_handed modes.Free p has.few }
 
-none_is_kept : IsKept HasNone
+pub none_is_kept : IsKept HasNone
 none_is_kept = record {
   few = λ p has. has.few;
   task_calls = λ p who c has. record { base = task_zero p.base p.objects.mutexes who c has.base; mutexes = has.mutexes; few = has.few };

@@ -53,11 +53,11 @@ current_lent_none b m t ready none =
 
 -- ---- what serving does to it
 
-fold_alike : (m now : Mutexes) (n : ℕ) (ids : List ℕ) → ((id : ℕ) → ceiling_of now id ≡ ceiling_of m id) → fold (capped now) n ids ≡ fold (capped m) n ids
+pub fold_alike : (m now : Mutexes) (n : ℕ) (ids : List ℕ) → ((id : ℕ) → ceiling_of now id ≡ ceiling_of m id) → fold (capped now) n ids ≡ fold (capped m) n ids
 fold_alike m now n [] same = refl
 fold_alike m now n (id ∷ ids) same = fold_alike m now (capped now n id) ids same ∙ ap (λ ceiling. fold (capped m) (under ceiling n) ids) (same id)
 
-differs_test : (x t : ℕ) → (x ≡ t → ⊥) → (x == t) ≡ false
+pub differs_test : (x t : ℕ) → (x ≡ t → ⊥) → (x == t) ≡ false
 differs_test x t apart = grind (arith, nat_tests, apart)
 
 -- what the task holds and the ceilings stay, so its priority does
@@ -93,7 +93,7 @@ freed_heir : (o : Option Mutex) (t : ℕ) → 1 ≤ t → heir_in (option_map {T
 freed_heir None t one is = omega (arith, one, is)
 freed_heir (Some k) t one is = heir_if k.inherits 0 t one (λ same. omega (arith, one, same)) is
 
-freed_ceiling : (m : Mutexes) (id : ℕ) (slot : Option Mutex) → mutex_at m id ≡ slot →
+pub freed_ceiling : (m : Mutexes) (id : ℕ) (slot : Option Mutex) → mutex_at m id ≡ slot →
     ceiling_in (mutex_at (with_mutex m id (option_map {T = Mutex} (λ k. record k { owner = 0 }) slot)) id) ≡ ceiling_of m id
 freed_ceiling m id None at = entry_same (λ o. ceiling_in o ≡ ceiling_of m id) m.table id None (sym (ap ceiling_in at)) (sym (ap ceiling_in at))
 freed_ceiling m id (Some k) at = ap ceiling_in (entry_there m.table id k (Some (record k { owner = 0 })) at) ∙ sym (ap ceiling_in at)

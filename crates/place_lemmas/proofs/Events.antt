@@ -202,7 +202,7 @@ stands_holdings row t Q mode st (suc u) settles apart has =
 
 -- ---- endings of requests
 
-few_arrived : (q : DevParts) (found : Option DevParts) → found ≡ Some q → devices.Kept (λ dv. length dv.links ≤ 9) found → length q.table.links ≤ 9
+pub few_arrived : (q : DevParts) (found : Option DevParts) → found ≡ Some q → devices.Kept (λ dv. length dv.links ≤ 9) found → length q.table.links ≤ 9
 few_arrived q None is few = absurd (cc is)
 few_arrived q (Some r) is few = let same : r ≡ q = cc is in subst (λ (it : DevParts). length it.table.links ≤ 9) same few
 

@@ -14,3 +14,9 @@ pub mod Calls
 pub mod Mutexes
 pub mod Tasks
 pub mod Statements
+pub mod Fewer
+pub mod Lending
+pub mod Sinks
+pub mod SinkEvents
+pub mod Exact
+pub mod SinkEnds

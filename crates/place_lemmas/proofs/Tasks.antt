@@ -177,7 +177,7 @@ begun_stands row t Q st u (call.StaTsk id code) value ready apart has =
 begun_stands row t Q st u call.ExdTsk value ready apart has = stands_deleted row t Q (parts_of st) u ready apart has
 begun_stands row t Q st u _ value ready apart has = has
 
-answered_stands : (row : Option Task) (t : ℕ) (Q : Mutexes → Type 0) (st : State) (u : ℕ) (it : TaskCall) (outcome : Outcome) → may_run row ≡ true →
+pub answered_stands : (row : Option Task) (t : ℕ) (Q : Mutexes → Type 0) (st : State) (u : ℕ) (it : TaskCall) (outcome : Outcome) → may_run row ≡ true →
     (ended_in u it ≡ t → ⊥) → Stands row t Q (parts_of st) →
     Stands row t Q (parts_of (answered st u (all_calls.Task it) outcome))
 unfolding answered entered

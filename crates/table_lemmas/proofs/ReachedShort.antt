@@ -38,7 +38,7 @@ pub record AllShort (p : Parts) : Type 0 where
   pub mails : MailsShort p.objects.mails
   pub pools : PoolsShort p.objects.pools
 
-record HasShort (p : Parts) : Type 0 where
+pub record HasShort (p : Parts) : Type 0 where
   pub short : AllShort p
   pub slots : HasSlots p
 
@@ -90,7 +90,7 @@ handed_short : (mode : Mode) (p : Parts) → AllShort p → AllShort (handed mod
 handed_short modes.Sync p has = has
 handed_short modes.Free p has = record { sem_flags = has.sem_flags; mutexes = has.mutexes; mails = has.mails; pools = has.pools }
 
-short_is_kept : IsKept HasShort
+pub short_is_kept : IsKept HasShort
 short_is_kept = record {
   few = λ p has. has.slots.few;
   task_calls = λ p who c has. record { short = record { sem_flags = has.short.sem_flags; mutexes = has.short.mutexes; mails = has.short.mails; pools = has.short.pools }; slots = slots_are_kept.task_calls p who c has.slots };
