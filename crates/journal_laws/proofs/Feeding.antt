@@ -34,7 +34,7 @@ use Rattle.journal_laws.proofs.Quiet.{IsQuiet, followed_quiet, start_quiet, work
 -- ---- an entry's ending
 
 -- the ending that is expected is one of that device, of that kind
-abbrev IsNamed : ℕ → How → Option Ending → Type 0
+abbrev pub IsNamed : ℕ → How → Option Ending → Type 0
 IsNamed d how some = (e : Ending) → some ≡ Some e → (e.device ≡ d) × (e.how ≡ how)
 
 none_named : (d : ℕ) (how : How) → IsNamed d how None
@@ -55,7 +55,7 @@ link_named : (d : ℕ) (how : How) (link : Option Link) → IsNamed d how (expec
 link_named d how None = none_named d how
 link_named d how (Some link) = given_named d how link link.given
 
-expected_named : (dv : Devices) (d : ℕ) (how : How) → IsNamed d how (expected dv d how)
+pub expected_named : (dv : Devices) (d : ℕ) (how : How) → IsNamed d how (expected dv d how)
 unfolding expected
 expected_named dv d how = link_named d how (link_at dv d)
 

@@ -8,3 +8,7 @@ pub mod OwedEvents
 pub mod Paces
 pub mod FedTurns
 pub mod WholeTurns
+pub mod Linked
+pub mod Needed
+pub mod Drivers
+pub mod OwnEndings

@@ -5,7 +5,9 @@ ghost use Rattle.tk_types.specs.declared.line.Entry.{Entry};
 ghost use Rattle.tk_types.specs.declared.line.LastLine.TheVariants as lasts;
 ghost use Rattle.tk_types.specs.declared.run.End.{End};
 ghost use Rattle.tk_types.specs.declared.run.Mode.{Mode};
+ghost use Rattle.tk_types.specs.declared.run.Mode.TheVariants as modes;
 ghost use Rattle.tk_types.specs.declared.script.Script.{Script};
+ghost use Rattle.kernel_model.specs.Bodies.Statements.{IsRunnable};
 ghost use Rattle.device_model.specs.declared.messages.Ending.{Ending};
 ghost use Rattle.machine_model.specs.States.State.{State};
 ghost use Rattle.machine_model.specs.Events.Follow.{Event};
@@ -40,7 +42,8 @@ pub fn a_run_ends_by_its_turns()
 {}
 
 /// The same of the run of sync mode, in which each ending that is needed is that of a request done whole: twice as many turns as
-/// there are steps in the budget are enough, since no more endings arrive than steps are done.
+/// there are steps in the budget are enough, since no more endings arrive than steps are done. A script that may run always finds
+/// the ending that it needs: its run is the trace that is fed with the endings that arrived in it.
 pub fn a_sync_run_ends_by_its_turns()
     ensures turns { (script : Script) (budget : ℕ) → 1 ≤ budget →
         (rest : SyncRun) × IsRun (whole_turn script budget) (start script).state rest × (sync_run script budget ≡ sync_after (start script).lines rest) }
@@ -48,4 +51,5 @@ pub fn a_sync_run_ends_by_its_turns()
         sync_after (start script).lines (sync_runs turns script budget (start script).state) ≡ sync_run script budget }
     ensures budget { (script : Script) (budget : ℕ) → 1 ≤ budget → (sync_run script budget).trace.last ≡ lasts.Budget → (sync_run script budget).trace.steps ≡ budget }
     ensures endings { (script : Script) (budget : ℕ) → 1 ≤ budget → length (sync_run script budget).entries ≤ (sync_run script budget).trace.steps }
+    ensures own { (script : Script) (budget : ℕ) → IsRunnable script → 1 ≤ budget → (sync_run script budget).trace ≡ trace script modes.Sync budget (sync_run script budget).entries }
 {}
