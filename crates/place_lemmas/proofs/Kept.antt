@@ -84,10 +84,10 @@ stands_turn row t Q script mode n st (turns.Task u) settles none has = absurd (n
 stands_turn row t Q script mode n st turns.Idle settles none has = stands_tick row t Q mode n st settles has
 
 -- a step with all that follows it, where no body goes on
-pub stands_worked : (row : Option Task) (t : ℕ) (Q : Mutexes → Type 0) (script : Script) (mode : Mode) (n : ℕ) (st : State) → Settles row t Q →
+pub stands_through_step : (row : Option Task) (t : ℕ) (Q : Mutexes → Type 0) (script : Script) (mode : Mode) (n : ℕ) (st : State) → Settles row t Q →
     IsNoStatement (turn_of (made_pending script n st)) → Stands row t Q (parts_of st) → Stands row t Q (parts_of (worked script mode n st).state)
 unfolding worked
-stands_worked row t Q script mode n st settles none has =
+stands_through_step row t Q script mode n st settles none has =
     let pending : State = made_pending script n st in
     stands_followed row t Q script mode n (done_turn script mode n pending (turn_of pending)).state settles
     (stands_turn row t Q script mode n pending (turn_of pending) settles none (pending_has (Stands row t Q) script n st has))

@@ -9,7 +9,7 @@ use Rattle.place_lemmas.proofs.Calls.{called_followed, called_stands}
 use Rattle.place_lemmas.proofs.Ceilings.{LendsNone}
 use Rattle.place_lemmas.proofs.Events.{stands_arrived, stands_followed, stands_holdings, stands_settled, stands_tick}
 use Rattle.machine_model.specs.Runs.Step.{worked}
-use Rattle.place_lemmas.proofs.Kept.{Alone, IsPreempted, due_place, ended_place, interrupt_place, owning_none_settles, preempted_then, settled_owning_none, settles_first, stands_first, stands_worked}
+use Rattle.place_lemmas.proofs.Kept.{Alone, IsPreempted, due_place, ended_place, interrupt_place, owning_none_settles, preempted_then, settled_owning_none, settles_first, stands_first, stands_through_step}
 use Rattle.place_lemmas.proofs.Mutexes.{mutex_called, mutex_followed}
 use Rattle.place_lemmas.proofs.Owned.{current_owning_none}
 use Rattle.place_lemmas.proofs.Statements.{acted_place}
@@ -58,23 +58,23 @@ returns-clause-arrives c = λ script mode st ending event t one few place ready 
 pub returns-clause-step : goal.returns-clause-step
 returns-clause-step c = λ script mode n st t one few place ready fresh heirs handler task.
     let is = asked (parts_of st) t one few place ready fresh heirs in
-    (stands_worked (task_at st.base t) t (Alone t (parts_of st)) script mode n st (settles_first t (parts_of st) is) (handler, task) (stands_first t (parts_of st) is)).place.base.place
+    (stands_through_step (task_at st.base t) t (Alone t (parts_of st)) script mode n st (settles_first t (parts_of st) is) (handler, task) (stands_first t (parts_of st) is)).place.base.place
 
 pub returns-clause-still_same : goal.returns-clause-still_same
 returns-clause-still_same c = λ script mode n st t one few place ready fresh heirs handler task.
     let is = asked (parts_of st) t one few place ready fresh heirs in
-    (stands_worked (task_at st.base t) t (Alone t (parts_of st)) script mode n st (settles_first t (parts_of st) is) (handler, task) (stands_first t (parts_of st) is)).place.base.is
+    (stands_through_step (task_at st.base t) t (Alone t (parts_of st)) script mode n st (settles_first t (parts_of st) is) (handler, task) (stands_first t (parts_of st) is)).place.base.is
 
 pub returns-clause-still_fresh : goal.returns-clause-still_fresh
 returns-clause-still_fresh c = λ script mode n st t one few place ready fresh heirs handler task.
     let is = asked (parts_of st) t one few place ready fresh heirs in
     (preempted_then t (parts_of st) (parts_of (worked script mode n st).state) is
-    (stands_worked (task_at st.base t) t (Alone t (parts_of st)) script mode n st (settles_first t (parts_of st) is) (handler, task) (stands_first t (parts_of st) is))).fresh
+    (stands_through_step (task_at st.base t) t (Alone t (parts_of st)) script mode n st (settles_first t (parts_of st) is) (handler, task) (stands_first t (parts_of st) is))).fresh
 
 pub returns-clause-still_alone : goal.returns-clause-still_alone
 returns-clause-still_alone c = λ script mode n st t one few place ready fresh heirs handler task.
     let is = asked (parts_of st) t one few place ready fresh heirs in
-    (stands_worked (task_at st.base t) t (Alone t (parts_of st)) script mode n st (settles_first t (parts_of st) is) (handler, task) (stands_first t (parts_of st) is)).place.mutexes.heirs
+    (stands_through_step (task_at st.base t) t (Alone t (parts_of st)) script mode n st (settles_first t (parts_of st) is) (handler, task) (stands_first t (parts_of st) is)).place.mutexes.heirs
 
 pub returns-clause-statements : goal.returns-clause-statements
 returns-clause-statements c = acted_place
