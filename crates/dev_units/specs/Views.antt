@@ -1,8 +1,9 @@
--- What contracts see of a unit and of bytes with room, and what holds of a unit at every time.
+-- What contracts see of a unit, and what holds of a unit at every time.
 use Rattle.std.specs.Prelude.{ℕ, ◌≡◌, ◌≤◌, ◌<◌, ◌+◌, ◌*◌, ◌^◌, true, false, List, length, ⊤}
 use Rattle.tk_types.specs.declared.script.Kind.{Kind}
 use Rattle.tk_types.specs.declared.script.Kind.TheVariants.{Ram, Log, Flaky, Slow}
 use Rattle.device_model.specs.declared.messages.Request.{Request}
+use Rattle.device_model.specs.RoomyBytes.{RoomyBytes}
 use Rattle.device_model.specs.Units.Stores.{Store, is_log, log_limit}
 use Rattle.device_model.specs.Units.Function.{block_size}
 use Rattle.dev_units.specs.Turns.{turn_of}
@@ -12,11 +13,6 @@ pub record UnitState : Type 0 where
   pub kind : Kind
   pub store : Store
   pub capacity : ℕ
-
--- bytes, and how many more there is room for
-pub record RoomyBytes : Type 0 where
-  pub items : List ℕ
-  pub room : ℕ
 
 -- the most bytes that a store of a kind ever has
 abbrev pub most_bytes : Kind → ℕ

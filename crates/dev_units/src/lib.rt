@@ -2,7 +2,6 @@
 #![tactic(auto)]
 
 mod block_end;
-mod bytes;
 mod count;
 mod lists;
 #[cfg(test)]
@@ -10,5 +9,4 @@ mod tests;
 mod unit;
 
 pub use block_end::BlockEnd;
-pub use bytes::Bytes;
 pub use unit::Unit;

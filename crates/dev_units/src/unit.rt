@@ -11,9 +11,9 @@ ghost use Rattle.dev_units.specs.Turns.{turn_of};
 ghost use Rattle.dev_units.specs.Views.{GoesOn, HasRoom, IsRightKind, HasTurns, most_bytes};
 
 use crate::block_end::BlockEnd;
-use crate::bytes::Bytes;
 use crate::count::Count;
-use crate::lists::{append, overwrite};
+use crate::lists::overwrite;
+use device_model::bytes::{Bytes, append};
 use device_model::messages::Request;
 use std::alloc::{AllocError, Global};
 use std::marker::Model;

@@ -1,2 +1,3 @@
+pub mod RoomyBytes
 pub mod Units
 pub mod Devices

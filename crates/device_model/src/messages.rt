@@ -1,9 +1,10 @@
 //! What passes between the kernel and the drivers of its devices.
 
-use tk_types::{Er, How, Sequence};
+use crate::bytes::Bytes;
+use tk_types::{Er, How};
 
 /// A request as its driver gets it. `number` counts the requests of its device that were handed over, from 1. A write has
-/// `size` bytes; a read has none.
+/// `size` bytes; a read has none, and room for so many.
 #[derive(Drop, Debug)]
 pub struct Request {
     pub id: u8,
@@ -11,7 +12,7 @@ pub struct Request {
     pub write: bool,
     pub start: u32,
     pub size: u32,
-    pub bytes: Sequence<u8>,
+    pub bytes: Bytes,
 }
 
 /// A message of the kernel to a driver: a request to serve, the wish that the request with that number be aborted, and the
@@ -24,7 +25,7 @@ pub enum Message {
 }
 
 /// What a driver answers: how the request ended that it had, with the bytes that were read, and how many messages it had
-/// taken by then.
+/// taken by then. The bytes stand in the room that the request came with; of a write there are none.
 #[derive(Drop, Debug)]
 pub struct Ending {
     pub device: u8,
@@ -34,5 +35,5 @@ pub struct Ending {
     pub size: u32,
     pub error: Er,
     pub taken: u64,
-    pub bytes: Sequence<u8>,
+    pub bytes: Bytes,
 }

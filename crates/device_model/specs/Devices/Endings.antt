@@ -12,6 +12,7 @@ use Rattle.device_model.specs.declared.messages.Ending.{Ending}
 use Rattle.device_model.specs.declared.messages.Request.{Request}
 use Rattle.device_model.specs.declared.rows.Life.TheVariants.{Ended}
 use Rattle.device_model.specs.declared.rows.Opened.{Opened}
+use Rattle.device_model.specs.RoomyBytes.{RoomyBytes, bytes_within}
 use Rattle.device_model.specs.Units.Stores.{Store}
 use Rattle.device_model.specs.Units.Function.{Served, unit, cut, may_cut}
 use Rattle.device_model.specs.Devices.Memory.{write_bytes}
@@ -40,6 +41,10 @@ abbrev pub served_of : Kind → Store → Request → How → Served
 served_of kind store request Done = unit kind store request
 served_of kind store request (Cut count) = cut kind store request count
 
+-- the bytes that were read, in the room that the request came with; a write brings none back
+abbrev pub bytes_back : Request → List ℕ → RoomyBytes
+bytes_back request content = bytes_within (if request.write then 0 else request.bytes.room) content
+
 -- the ending of a request, by a driver that has taken no message
 abbrev pub ending_of : ℕ → Request → How → Served → Ending
 ending_of d request how served = record {
@@ -50,7 +55,7 @@ ending_of d request how served = record {
   size = served.size;
   error = served.error;
   taken = 0;
-  bytes = served.content;
+  bytes = bytes_back request served.content;
 }
 
 abbrev pub expected_given : ℕ → How → Link → Option Given → Option Ending
@@ -75,7 +80,7 @@ is_error one other = int_eq (code_of one) (code_of other)
 abbrev pub says : Ending → Request → Served → Bool
 says ending request served =
     ending.request == request.id && (ending.number == request.number
-    && (ending.size == served.size && (is_error ending.error served.error && bytes_eq ending.bytes served.content)))
+    && (ending.size == served.size && (is_error ending.error served.error && bytes_eq ending.bytes.items served.content)))
 
 abbrev pub is_fit : Ending → Link → Given → Bool
 is_fit ending link given =

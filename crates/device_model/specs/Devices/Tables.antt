@@ -14,6 +14,7 @@ use Rattle.device_model.specs.declared.rows.Life.TheVariants.{Queued, AtDriver, 
 use Rattle.device_model.specs.declared.rows.Opened.{Opened}
 use Rattle.device_model.specs.declared.rows.Wish.{Wish}
 use Rattle.device_model.specs.declared.rows.Wish.TheVariants.{Nothing}
+use Rattle.device_model.specs.RoomyBytes.{bytes_within}
 use Rattle.device_model.specs.Units.Stores.{Store, store_start}
 
 -- the request that is with a driver, and whether it was asked to abort it
@@ -158,9 +159,16 @@ dropped_in (Some row) dv id =
 unfoldable pub dropped : Devices → ℕ → Devices
 dropped dv id = dropped_in (row_at dv id) dv id
 
--- a request as its driver gets it
+-- a request as its driver gets it: there is room for as many bytes as it moves at most
 abbrev pub request_of : ℕ → ℕ → Row → Request
-request_of id number row = record { id = id; number = number; write = row.write; start = row.start; size = row.size; bytes = row.bytes }
+request_of id number row = record {
+  id = id;
+  number = number;
+  write = row.write;
+  start = row.start;
+  size = row.size;
+  bytes = bytes_within row.size row.bytes;
+}
 
 abbrev pub link_handed : ℕ → Link → Request → Link
 link_handed d link request = record link {

@@ -26,8 +26,8 @@ piece count moved = min block_size (count - moved)
 abbrev pub written_on : Kind → List ℕ → Request → ℕ → ℕ → List ℕ
 written_on kind bytes request moved count =
     if is_log kind
-    then bytes ++ take count (drop moved request.bytes)
-    else write_at bytes (request.start + moved) (take count (drop moved request.bytes))
+    then bytes ++ take count (drop moved request.bytes.items)
+    else write_at bytes (request.start + moved) (take count (drop moved request.bytes.items))
 
 -- so many bytes more are moved
 abbrev pub moved_on : Kind → Partial → Request → ℕ → ℕ → Partial

@@ -1,6 +1,6 @@
 -- What a unit does with a request: the store that it leaves, how many bytes are moved, the error, and the bytes read. One
 -- rule for all kinds; they differ in what there is to move, in whether a write appends, and in which request fails.
-use Rattle.std.specs.Prelude.{◌≡◌, true, ℕ, ◌+◌, ◌-◌, ◌%◌, ◌==◌, Bool, ◌&&◌, ◌||◌, nat_lt, if◌then◌else◌, min, List, [], ◌++◌, length, take, drop}
+use Rattle.std.specs.Prelude.{◌≡◌, ◌≤◌, true, false, ℕ, ◌+◌, ◌-◌, ◌%◌, ◌==◌, Bool, ◌&&◌, ◌||◌, nat_lt, if◌then◌else◌, min, List, [], ◌++◌, length, take, drop}
 use Rattle.tk_types.specs.declared.error_code.Er.{Er}
 use Rattle.tk_types.specs.declared.error_code.Er.TheVariants as er
 use Rattle.tk_types.specs.declared.script.Kind.{Kind}
@@ -14,9 +14,11 @@ pub record Served : Type 0 where
   pub error : Er
   pub content : List ℕ  -- the bytes that were read
 
--- a write has as many bytes as its size
+-- a write has as many bytes as its size; a read has none, and room for so many
 pub record IsWhole (request : Request) : Type 0 where
-  pub size : request.write ≡ true → length request.bytes ≡ request.size
+  pub size : request.write ≡ true → length request.bytes.items ≡ request.size
+  pub none : request.write ≡ false → request.bytes.items ≡ []
+  pub room : request.write ≡ false → request.size ≤ request.bytes.room
 
 -- a request of some size counts once it is begun
 abbrev pub begin : Store → Request → Store
@@ -43,7 +45,7 @@ written kind bytes request new = if is_log kind then bytes ++ new else write_at 
 -- the store once a request's first bytes were moved, so many
 abbrev pub moved : Kind → Store → Request → ℕ → Store
 moved kind begun request count =
-    if request.write then record begun { bytes = written kind begun.bytes request (take count request.bytes) } else begun
+    if request.write then record begun { bytes = written kind begun.bytes request (take count request.bytes.items) } else begun
 
 -- the bytes that a request reads, of so many
 abbrev pub content_of : Store → Request → ℕ → List ℕ

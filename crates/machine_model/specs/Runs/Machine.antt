@@ -8,7 +8,9 @@ use Rattle.tk_types.specs.declared.run.End.TheVariants as ends
 use Rattle.tk_types.specs.declared.line.Line.{Line}
 use Rattle.tk_types.specs.declared.line.Line.TheVariants as lines
 use Rattle.device_model.specs.declared.messages.Ending.{Ending}
-use Rattle.machine_model.specs.States.State.{State}
+use Rattle.device_model.specs.declared.messages.Message.{Message}
+use Rattle.device_model.specs.Devices.Handing.{messages}
+use Rattle.machine_model.specs.States.State.{State, taken}
 use Rattle.machine_model.specs.Events.Follow.{Event}
 use Rattle.machine_model.specs.Events.Arrivals.{arrived}
 use Rattle.machine_model.specs.Runs.Step.{Pace, Ends, Needs, Went, step}
@@ -22,6 +24,7 @@ pub record Machine : Type 0 where
   pub over : Option End  -- how the run ended, where it is over
   pub failed : Bool  -- whether the host's memory ran out in a call
   pub lines : List Line  -- the lines that weren't taken yet
+  pub messages : List Message  -- the messages to drivers that weren't taken yet
 
 -- a new machine has the line of its first dispatch
 abbrev pub new_machine : Script → Mode → ℕ → Machine
@@ -33,10 +36,15 @@ new_machine script mode budget = record {
   over = None;
   failed = false;
   lines = (start script).lines;
+  messages = [];
 }
 
+-- a state that was come to: its messages go behind those that wait already
+abbrev pub with_state : Machine → State → Machine
+with_state m now = record m { state = taken now; messages = m.messages ++ messages now.objects.devices }
+
 abbrev pub with_event : Machine → Event → Machine
-with_event m event = record m { state = event.state; lines = m.lines ++ event.lines }
+with_event m event = record (with_state m event.state) { lines = m.lines ++ event.lines }
 
 -- the run is over, and has its last line
 abbrev pub ended : Machine → End → Machine
@@ -48,7 +56,7 @@ ended_if m (Some end) = ended m end
 
 abbrev pub after_pace : Machine → Pace → Machine
 after_pace m (Went event over) = ended_if (with_event m event) over
-after_pace m (Needs waiting) = record m { state = waiting }
+after_pace m (Needs waiting) = with_state m waiting
 after_pace m Ends = ended m ends.Idle
 
 -- a call of `step`: a machine that is over stays as it is

@@ -14,7 +14,7 @@ use Rattle.tk_types.specs.declared.line.LastLine.TheVariants as lasts
 use Rattle.device_model.specs.declared.messages.Ending.{Ending}
 use Rattle.device_model.specs.Devices.Endings.{expected}
 use Rattle.device_model.specs.Devices.Tables.{Devices, at_driver, device_ids}
-use Rattle.machine_model.specs.States.State.{State}
+use Rattle.machine_model.specs.States.State.{State, taken}
 use Rattle.machine_model.specs.Events.Follow.{Event}
 use Rattle.machine_model.specs.Events.Arrivals.{arrived}
 use Rattle.machine_model.specs.Runs.Step.{Pace, Ends, Needs, Went, step}
@@ -49,19 +49,19 @@ needed_ending st = expected st.objects.devices (first_given st.objects.devices) 
 
 abbrev pub sync_arrived : (State → SyncRun) → State → Ending → Option Event → SyncRun
 sync_arrived next st e None = sync_over st ends.Idle
-sync_arrived next st e (Some event) = with_entry (entry_of (st.steps + 1) e) (sync_after event.lines (next event.state))
+sync_arrived next st e (Some event) = with_entry (entry_of (st.steps + 1) e) (sync_after event.lines (next (taken event.state)))
 
 abbrev pub sync_ending : (State → SyncRun) → Script → State → Option Ending → SyncRun
 sync_ending next script st None = sync_over st ends.Idle
 sync_ending next script st (Some e) = sync_arrived next st e (arrived script modes.Sync st e)
 
 abbrev pub sync_turn : (State → SyncRun) → Script → State → Pace → SyncRun
-sync_turn next script st (Went event None) = sync_after event.lines (next event.state)
+sync_turn next script st (Went event None) = sync_after event.lines (next (taken event.state))
 sync_turn next script st (Went event (Some end)) = sync_after event.lines (sync_over event.state end)
-sync_turn next script st (Needs waiting) = sync_ending next script waiting (needed_ending waiting)
+sync_turn next script st (Needs waiting) = sync_ending next script (taken waiting) (needed_ending (taken waiting))
 sync_turn next script st Ends = sync_over st ends.Idle
 
--- the run from a state on, by at most so many turns
+-- the run from a state on, by at most so many turns; messages to drivers are taken after each event
 unfoldable pub sync_runs : ℕ → Script → ℕ → State → SyncRun
 sync_runs zero script budget st = sync_over st ends.Budget
 sync_runs (suc left) script budget st = sync_turn (λ now. sync_runs left script budget now) script st (step script modes.Sync budget st)

@@ -13,7 +13,7 @@ use Rattle.tk_types.specs.declared.line.LastLine.{LastLine}
 use Rattle.tk_types.specs.declared.line.LastLine.TheVariants as lasts
 use Rattle.device_model.specs.declared.messages.Ending.{Ending}
 use Rattle.device_model.specs.Devices.Endings.{expected}
-use Rattle.machine_model.specs.States.State.{State, state_start}
+use Rattle.machine_model.specs.States.State.{State, state_start, taken}
 use Rattle.machine_model.specs.Events.Follow.{Event, dispatched}
 use Rattle.machine_model.specs.Events.Arrivals.{arrived}
 use Rattle.machine_model.specs.Runs.Step.{Pace, Ends, Needs, Went, step}
@@ -76,8 +76,8 @@ abbrev pub without_ending : ℕ → List Entry → LastLine
 without_ending k [] = lasts.Starved
 without_ending k (entry ∷ later) = lasts.Unfit k
 
--- ---- turns of a run. A turn takes one entry, or does one step; `next` is the rest of the run behind it, from a state and
--- with the entries that are left, the first of which has a number
+-- ---- turns of a run. A turn takes one entry, or does one step, and the messages to drivers that this leaves are taken;
+-- `next` is the rest of the run behind it, from a state and with the entries that are left, the first of which has a number
 
 -- the rest of a run
 abbrev pub Rest : Type 0
@@ -86,11 +86,11 @@ Rest = State → ℕ → List Entry → Trace
 -- an entry is taken
 abbrev pub run_entered : Rest → State → ℕ → List Entry → Option Event → Trace
 run_entered next st k later None = over_with st (lasts.Unfit k)
-run_entered next st k later (Some event) = after event.lines (next event.state (k + 1) later)
+run_entered next st k later (Some event) = after event.lines (next (taken event.state) (k + 1) later)
 
 -- a step was done
 abbrev pub run_went : Rest → ℕ → List Entry → Event → Option End → Trace
-run_went next k entries event None = after event.lines (next event.state k entries)
+run_went next k entries event None = after event.lines (next (taken event.state) k entries)
 run_went next k entries event (Some end) = after event.lines (over_with event.state (last_line end k entries))
 
 -- in free mode an entry whose place has come is taken before the step; so where an ending is needed there is none for it
@@ -112,7 +112,7 @@ abbrev pub sync_pace : Rest → Script → State → ℕ → List Entry → Pace
 sync_pace next script st k entries (Went event over) =
     if is_next_by (st.steps + 1) entries then over_with st (lasts.Unfit k) else run_went next k entries event over
 sync_pace next script st k [] (Needs waiting) = over_with waiting lasts.Starved
-sync_pace next script st k (entry ∷ later) (Needs waiting) = run_entered next waiting k later (entered script modes.Sync waiting entry)
+sync_pace next script st k (entry ∷ later) (Needs waiting) = run_entered next waiting k later (entered script modes.Sync (taken waiting) entry)
 sync_pace next script st k entries Ends = over_with st (last_line ends.Idle k entries)
 
 abbrev pub run_turn : Rest → Script → Mode → ℕ → State → ℕ → List Entry → Trace

@@ -10,6 +10,7 @@ use Rattle.kernel_model.specs.Tasks.Base.{Base, base_start}
 use Rattle.kernel_model.specs.Bodies.Statements.{memory_size, start_frame}
 use Rattle.context_model.specs.Contexts.Tables.{depth_in}
 use Rattle.context_model.specs.Hooks.Tables.{Hooks, hooks_start}
+use Rattle.device_model.specs.Devices.Handing.{emptied}
 use Rattle.machine_model.specs.States.Objects.{Objects, Parts, objects_start}
 
 pub record State : Type 0 where
@@ -33,6 +34,12 @@ parts_of st = record { base = st.base; objects = st.objects; memory = st.memory 
 
 abbrev pub with_parts : State → Parts → State
 with_parts st p = record st { base = p.base; objects = p.objects; memory = p.memory }
+
+-- ---- messages to drivers
+
+-- those that waited to be taken were taken
+abbrev pub taken : State → State
+taken st = record st { objects = record st.objects { devices = emptied st.objects.devices } }
 
 -- ---- frames
 

@@ -1,5 +1,5 @@
 use Rattle.std.proofs.Common.{◌≡◌, ◌++◌, vec_capacity, take}
-use Rattle.dev_units.proofs.lists.append.Given as goal
+use Rattle.device_model.proofs.bytes.append.Given as goal
 
 -- the bytes so far stand behind those of the list
 abbrev pub invariant-bytes : goal.invariant-bytes

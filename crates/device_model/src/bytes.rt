@@ -1,8 +1,7 @@
-//! Bytes with room for more.
+//! Bytes with room for more. What is put into room that is there takes no memory.
 
 ghost use Rattle.std.specs.Prelude.{◌≡◌, ◌≤◌, ◌<◌, ◌+◌, ◌-◌, ◌∷◌, ◌++◌, [], IfOk, length, vec_capacity};
 
-use crate::lists::append;
 use std::alloc::Global;
 use std::marker::Model;
 use tk_types::OutOfMemory;
@@ -15,14 +14,35 @@ pub struct Bytes {
 
 impl Model for Bytes {
     ghost use Rattle.std.specs.Prelude.{◌-◌, length, vec_capacity};
-    ghost use Rattle.dev_units.specs.Views.{RoomyBytes};
+    ghost use Rattle.device_model.specs.RoomyBytes.{RoomyBytes};
 
     ghost Value = { RoomyBytes };
 
     ghost view = { λ bytes. record { items = bytes.list.items; room = vec_capacity bytes.list - length bytes.list.items } };
 }
 
+/// Puts bytes behind the last one of a list that has room for them. It takes no memory.
+pub fn append(list: &mut Vec<u8>, bytes: &[u8])
+    requires { length list.old.items + length bytes.now ≤ vec_capacity list.old }
+    ensures items { list.new.items ≡ list.old.items ++ bytes.now }
+    ensures capacity { vec_capacity list.new ≡ vec_capacity list.old }
+{
+    'bytes: for place in 0..bytes.len() {
+        list.push_reserved(bytes[place]);
+    }
+}
+
 impl Bytes {
+    /// No byte, and no room. It takes no memory.
+    pub fn new(alloc: Global) -> Bytes
+        ensures items { result.items ≡ [] }
+        ensures room { result.room ≡ 0 }
+    {
+        Bytes {
+            list: Vec::new(alloc),
+        }
+    }
+
     /// No byte, and room for so many.
     pub fn with_room(alloc: Global, count: u32) -> Result<Bytes, OutOfMemory>
         ensures empty { IfOk result (λ bytes. bytes.items ≡ []) }
@@ -74,7 +94,7 @@ impl Bytes {
     }
 
     /// Bytes go behind the last one, where there is room for all of them. It takes no memory.
-    pub(crate) fn append(&mut self, bytes: &[u8])
+    pub fn append(&mut self, bytes: &[u8])
         requires { length bytes.now ≤ self.old.room }
         ensures items { self.new.items ≡ self.old.items ++ bytes.now }
         ensures room { self.new.room + length bytes.now ≡ self.old.room }
