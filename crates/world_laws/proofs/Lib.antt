@@ -1,3 +1,5 @@
 pub mod Places
 pub mod Takes
 pub mod Turns
+pub mod Roads
+pub mod LinkMoves
