@@ -65,6 +65,7 @@ hands_keep d link road request none whole number keeps = record {
   device = keeps.device;
   of_kind = keeps.of_kind;
   stopped = keeps.stopped;
+  counted = λ it is. omega arith;
   place = subst (λ (w : List Message). Place (side_of false d (link_handed d link request)) road.core road.outbox w) (sym (behind link road (message.Serve d request)))
       (hands_place d link request road.core road.outbox (way_of link road) none whole number keeps.place);
 }
@@ -158,6 +159,7 @@ asks_keep d link road given has not keeps = record {
   device = keeps.device;
   of_kind = keeps.of_kind;
   stopped = keeps.stopped;
+  counted = λ it is. keeps.counted given has;
   place = subst (λ (w : List Message). Place (side_of false d (link_asked d link given)) road.core road.outbox w) (sym (behind link road (message.Abort d given.request.number)))
       (asks_place d link given road.core road.outbox (way_of link road) has not keeps.place);
 }
@@ -195,3 +197,108 @@ pub record Comes (link : Link) (d : ℕ) (road : Road) (e : Ending) (later : Lis
   pub allowed : is_allowed link.kind link.store it how ≡ true
   pub same : e ≡ record (ending_of d it.request how (served_of link.kind link.store it.request how)) { taken = count }
   pub keeps : Keeps false d (record link { store = (served_of link.kind link.store it.request how).store; given = None }) (record road { outbox = later })
+
+first_same : (out : List Ending) (one e : Ending) (later : List Ending) → out ≡ one ∷ [] → out ≡ e ∷ later → (e ≡ one) × (later ≡ [])
+first_same out one e later was is = (cc (was, is), cc (was, is))
+
+none_out : (out : List Ending) (e : Ending) (later : List Ending) → out ≡ [] → out ≡ e ∷ later → ⊥
+none_out out e later none is = cc (none, is)
+
+comes_from : (d : ℕ) (link : Link) (road : Road) (e : Ending) (later : List Ending) → Keeps false d link road → road.outbox ≡ e ∷ later → IsSent (side_of false d link) road.core road.outbox (way_of link road) →
+    Comes link d road e later
+comes_from d link road e later keeps out p = record {
+  it = p.it; how = p.how; count = p.count; is = p.is; allowed = p.allowed; same = both.0;
+  keeps = record {
+    device = keeps.device;
+    of_kind = keeps.of_kind;
+    stopped = keeps.stopped;
+    counted = λ it is. absurd (cc is);
+    place = nowhere (record {
+      old = old_of p.it.request.number p.own; stop = p.stop; none = refl; idle = p.idle; unready = p.unready; empty = both.1; store = p.store;
+      before = old_before p.it.request.number link.number p.own (let counted = keeps.counted p.it p.is in let number = p.number in omega (arith, counted, number)) p.number; only = p.only;
+      way = p.way ∙ old_is d p.it.request.number p.own p.stop;
+    });
+  };
+}
+  where
+    both : (e ≡ record (ending_of d p.it.request p.how (served_of link.kind link.store p.it.request p.how)) { taken = p.count }) × (later ≡ [])
+    both = first_same road.outbox _ e later p.sent out
+
+comes_place : (d : ℕ) (link : Link) (road : Road) (e : Ending) (later : List Ending) → Keeps false d link road → road.outbox ≡ e ∷ later → Place (side_of false d link) road.core road.outbox (way_of link road) →
+    Comes link d road e later
+comes_place d link road e later keeps out (nowhere p) = absurd (none_out road.outbox e later p.empty out)
+comes_place d link road e later keeps out (on_way p) = absurd (none_out road.outbox e later p.empty out)
+comes_place d link road e later keeps out (in_hand p) = absurd (none_out road.outbox e later p.empty out)
+comes_place d link road e later keeps out (at_ready p) = absurd (none_out road.outbox e later p.empty out)
+comes_place d link road e later keeps out (sent p) = comes_from d link road e later keeps out p
+
+-- what comes out of an outbox is the ending of the request that is with the driver, which has none then
+pub comes : (d : ℕ) (link : Link) (road : Road) (e : Ending) (later : List Ending) → Keeps false d link road → road.outbox ≡ e ∷ later → Comes link d road e later
+comes d link road e later keeps out = comes_place d link road e later keeps out keeps.place
+
+-- ---- the run is over
+
+is_over : (P : Type 0) (stop : Bool) → (stop ≡ true → false ≡ true) → stop ≡ true → P
+is_over P stop only is = absurd (cc (only is))
+
+stopped_nowhere : (d : ℕ) (old : Option ℕ) (stop : Bool) → stop ≡ false → (old_aborts d old ++ stops d stop) ++ message.Stop d ∷ [] ≡ old_aborts d old ++ stops d true
+stopped_nowhere d old true none = absurd (cc none)
+stopped_nowhere d None false none = refl
+stopped_nowhere d (Some number) false none = refl
+
+stopped_own : (d number : ℕ) (own stop : Bool) → stop ≡ false → (own_aborts d number own ++ stops d stop) ++ message.Stop d ∷ [] ≡ own_aborts d number own ++ stops d true
+stopped_own d number own true none = absurd (cc none)
+stopped_own d number true false none = refl
+stopped_own d number false false none = refl
+
+stopped_way : (d : ℕ) (request : Request) (old : Option ℕ) (own stop : Bool) → stop ≡ false →
+    (old_aborts d old ++ (message.Serve d request ∷ (own_aborts d request.number own ++ stops d stop))) ++ message.Stop d ∷ []
+    ≡ old_aborts d old ++ (message.Serve d request ∷ (own_aborts d request.number own ++ stops d true))
+stopped_way d request old own true none = absurd (cc none)
+stopped_way d request None true false none = refl
+stopped_way d request None false false none = refl
+stopped_way d request (Some number) true false none = refl
+stopped_way d request (Some number) false false none = refl
+
+stops_place : (d : ℕ) (link : Link) (c : Core) (out : List Ending) (path : List Message) → Place (side_of false d link) c out path → Place (side_of true d link) c out (path ++ message.Stop d ∷ [])
+stops_place d link c out path (nowhere p) = nowhere (record {
+  old = p.old; stop = true; none = p.none; idle = p.idle; unready = p.unready; empty = p.empty; store = p.store; before = p.before; only = λ is. refl;
+  way = ap (λ (w : List Message). w ++ message.Stop d ∷ []) p.way ∙ stopped_nowhere d p.old p.stop (no_stop p.stop p.only);
+})
+stops_place d link c out path (on_way p) = on_way (record {
+  old = p.old; own = p.own; stop = true; it = p.it; is = p.is; number = p.number; whole = p.whole; asked = p.asked;
+  idle = p.idle; unready = p.unready; empty = p.empty; store = p.store; before = p.before; only = λ is. refl;
+  way = ap (λ (w : List Message). w ++ message.Stop d ∷ []) p.way ∙ stopped_way d p.it.request p.old p.own p.stop (no_stop p.stop p.only);
+})
+stops_place d link c out path (in_hand p) = in_hand (record {
+  own = p.own; stop = true; it = p.it; is = p.is; number = p.number; whole = p.whole; asked = p.asked; works = p.works;
+  unready = p.unready; empty = p.empty; done = p.done; more = p.more; partial = p.partial; only = λ is. refl;
+  way = ap (λ (w : List Message). w ++ message.Stop d ∷ []) p.way ∙ stopped_own d p.it.request.number p.own p.stop (no_stop p.stop p.only);
+})
+stops_place d link c out path (at_ready p) = at_ready (record {
+  own = p.own; stop = true; it = p.it; how = p.how; is = p.is; number = p.number; asked = p.asked; allowed = p.allowed;
+  idle = p.idle; ready = p.ready; empty = p.empty; store = p.store; only = λ is. refl;
+  way = ap (λ (w : List Message). w ++ message.Stop d ∷ []) p.way ∙ stopped_own d p.it.request.number p.own p.stop (no_stop p.stop p.only);
+})
+stops_place d link c out path (sent p) = sent (record {
+  own = p.own; stop = true; it = p.it; how = p.how; count = p.count; is = p.is; number = p.number; asked = p.asked; allowed = p.allowed;
+  idle = p.idle; unready = p.unready; sent = p.sent; store = p.store; only = λ is. refl;
+  way = ap (λ (w : List Message). w ++ message.Stop d ∷ []) p.way ∙ stopped_own d p.it.request.number p.own p.stop (no_stop p.stop p.only);
+})
+
+-- where no message waits with the kernel, a Stop is the last on the way
+stop_way : (d : ℕ) (link : Link) (road : Road) → link.out ≡ [] → way_of link (given_to road (message.Stop d ∷ [])) ≡ way_of link road ++ message.Stop d ∷ []
+stop_way d link road none =
+    ap (λ (out : List Message). road.inbox ++ ((road.waiting ++ message.Stop d ∷ []) ++ out)) none
+    ∙ (ap (λ (w : List Message). road.inbox ++ w) (append-nil (road.waiting ++ message.Stop d ∷ []))
+    ∙ (sym (append_assoc road.inbox road.waiting (message.Stop d ∷ []))
+    ∙ ap (λ (w : List Message). (road.inbox ++ w) ++ message.Stop d ∷ []) (sym (append-nil road.waiting) ∙ ap (λ (out : List Message). road.waiting ++ out) (sym none))))
+
+pub stops_keep : (d : ℕ) (link : Link) (road : Road) → link.out ≡ [] → Keeps false d link road → Keeps true d link (given_to road (message.Stop d ∷ []))
+stops_keep d link road none keeps = record {
+  device = keeps.device;
+  of_kind = keeps.of_kind;
+  stopped = λ is. refl;
+  counted = keeps.counted;
+  place = subst (λ (w : List Message). Place (side_of true d link) road.core road.outbox w) (sym (stop_way d link road none)) (stops_place d link road.core road.outbox (way_of link road) keeps.place);
+}

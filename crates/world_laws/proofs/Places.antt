@@ -139,11 +139,12 @@ pub data Place (s : Side) (c : Core) (out : List Ending) (path : List Message) :
   at_ready : AtReady s c out path → Place s c out path
   sent : IsSent s c out path → Place s c out path
 
--- and the driver is that of the device, which was stopped only where the run is over
+-- and the driver is that of the device, which was stopped only where the run is over; what is with it was counted
 pub record Stands (s : Side) (c : Core) (out : List Ending) (path : List Message) : Type 0 where
   pub device : c.device ≡ s.device
   pub of_kind : c.kind ≡ s.kind
   pub stopped : c.stopped ≡ true → s.over ≡ true
+  pub counted : (it : Given) → s.given ≡ Some it → 0 < s.last
   pub place : Place s c out path
 
 -- ---- a driver that does the same work

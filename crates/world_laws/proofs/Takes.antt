@@ -40,7 +40,7 @@ goes_by s c out d number rest stands none =
     (record {
       device = stands.device;
       of_kind = stands.of_kind;
-      stopped = stands.stopped;
+      stopped = stands.stopped; counted = stands.counted;
       place = same_place s c (record c { taken = c.taken + 1 }) out rest
           (record { device = refl; kind = refl; store = refl; given = refl; blocks = refl; content = refl; ready = refl }) stands.place;
     })
@@ -51,7 +51,7 @@ unfolding after_message
 stops_by s c out is stands = record {
   device = stands.device;
   of_kind = stands.of_kind;
-  stopped = λ stopped. is;
+  stopped = λ stopped. is; counted = stands.counted;
   place = same_place s c (record c { stopped = true; taken = c.taken + 1 }) out []
       (record { device = refl; kind = refl; store = refl; given = refl; blocks = refl; content = refl; ready = refl }) stands.place;
 }
@@ -79,7 +79,7 @@ from_nowhere s c out path stands p =
     (nowhere_takes s c out p.old p.stop p.idle p.only (λ left more was had. record {
       device = stands.device;
       of_kind = stands.of_kind;
-      stopped = stands.stopped;
+      stopped = stands.stopped; counted = stands.counted;
       place = nowhere (record {
         old = left; stop = more; none = p.none; idle = p.idle; unready = p.unready; empty = p.empty; store = p.store;
         before = before_left (s.last + 1) p.old left was p.before; only = only_left (s.over ≡ true) p.stop more had p.only; way = refl;
@@ -102,7 +102,7 @@ serve_place s c out path p = record {
 serve_takes : (s : Side) (c : Core) (out : List Ending) (path : List Message) (p : OnWay s c out path) → Stands s c out path →
     Takes s c out (message.Serve s.device p.it.request ∷ (own_aborts s.device p.it.request.number p.own ++ stops s.device p.stop))
 unfolding after_message
-serve_takes s c out path p stands = record { device = stands.device; of_kind = stands.of_kind; stopped = stands.stopped; place = in_hand (serve_place s c out path p) }
+serve_takes s c out path p stands = record { device = stands.device; of_kind = stands.of_kind; stopped = stands.stopped; counted = stands.counted; place = in_hand (serve_place s c out path p) }
 
 on_way_takes : (s : Side) (c : Core) (out : List Ending) (path : List Message) (p : OnWay s c out path) → Stands s c out path → (old : Option ℕ) →
     Takes s c out (old_aborts s.device old ++ (message.Serve s.device p.it.request ∷ (own_aborts s.device p.it.request.number p.own ++ stops s.device p.stop)))
@@ -111,7 +111,7 @@ on_way_takes s c out path p stands (Some number) =
     goes_by s c out s.device number _ (record {
       device = stands.device;
       of_kind = stands.of_kind;
-      stopped = stands.stopped;
+      stopped = stands.stopped; counted = stands.counted;
       place = on_way (record {
         old = None; own = p.own; stop = p.stop; it = p.it; is = p.is; number = p.number; whole = p.whole; asked = p.asked;
         idle = p.idle; unready = p.unready; empty = p.empty; store = p.store; before = tt; only = p.only; way = refl;
@@ -136,7 +136,7 @@ cut_takes : (s : Side) (c : Core) (out : List Ending) (path : List Message) (p :
 unfolding after_message
 cut_takes s c out path p stands own =
     subst (λ (now : Core). Stands s (record now { taken = c.taken + 1 }) out (stops s.device p.stop)) (sym (cut_by c p.it.request c.given p.works))
-    (record { device = stands.device; of_kind = stands.of_kind; stopped = stands.stopped; place = at_ready ready_now })
+    (record { device = stands.device; of_kind = stands.of_kind; stopped = stands.stopped; counted = stands.counted; place = at_ready ready_now })
   where
     request : Request
     request = p.it.request
@@ -164,7 +164,7 @@ hand_takes s c out path p stands false false own had = tt
 hand_takes s c out path p stands false true own had = stops_by s c out (p.only had) (record {
   device = stands.device;
   of_kind = stands.of_kind;
-  stopped = stands.stopped;
+  stopped = stands.stopped; counted = stands.counted;
   place = in_hand (record {
     own = false; stop = false; it = p.it; is = p.is; number = p.number; whole = p.whole; asked = p.asked ∙ own; works = p.works;
     unready = p.unready; empty = p.empty; done = p.done; more = p.more; partial = p.partial; only = λ no. absurd (cc no); way = refl;
@@ -186,7 +186,7 @@ from_ready s c out path stands p =
     (ended_takes s c out p.it.request.number p.own p.stop p.idle p.only (λ more had. record {
       device = stands.device;
       of_kind = stands.of_kind;
-      stopped = stands.stopped;
+      stopped = stands.stopped; counted = stands.counted;
       place = at_ready (record {
         own = false; stop = more; it = p.it; how = p.how; is = p.is; number = p.number; asked = λ no. absurd (cc no); allowed = p.allowed;
         idle = p.idle; ready = p.ready; empty = p.empty; store = p.store; only = only_left (s.over ≡ true) p.stop more had p.only; way = refl;
@@ -199,7 +199,7 @@ from_sent s c out path stands p =
     (ended_takes s c out p.it.request.number p.own p.stop p.idle p.only (λ more had. record {
       device = stands.device;
       of_kind = stands.of_kind;
-      stopped = stands.stopped;
+      stopped = stands.stopped; counted = stands.counted;
       place = sent (record {
         own = false; stop = more; it = p.it; how = p.how; count = p.count; is = p.is; number = p.number; asked = λ no. absurd (cc no); allowed = p.allowed;
         idle = p.idle; unready = p.unready; sent = p.sent; store = p.store; only = only_left (s.over ≡ true) p.stop more had p.only; way = refl;

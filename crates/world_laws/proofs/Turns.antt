@@ -32,7 +32,7 @@ empty_turn : (s : Side) (c : Core) (out : List Ending) (path : List Message) →
 empty_turn s c out path stands = record {
   device = stands.device;
   of_kind = stands.of_kind;
-  stopped = stands.stopped;
+  stopped = stands.stopped; counted = stands.counted;
   place = same_place s c (record c { turns = c.turns + 1 }) out path
       (record { device = refl; kind = refl; store = refl; given = refl; blocks = refl; content = refl; ready = refl }) stands.place;
 }
@@ -94,8 +94,8 @@ finished s c out path p device of_kind is = record {
 
 worked_by : (s : Side) (c : Core) (out : List Ending) (path : List Message) (p : InHand s c out path) → Stands s c out path → (last : Bool) → is_last c.kind c.store p.it.request c.blocks ≡ last →
     Stands s (if last then done c p.it.request (next_block c p.it.request) else went_on c (next_block c p.it.request)) out path
-worked_by s c out path p stands true is = record { device = stands.device; of_kind = stands.of_kind; stopped = stands.stopped; place = at_ready (finished s c out path p stands.device stands.of_kind is) }
-worked_by s c out path p stands false is = record { device = stands.device; of_kind = stands.of_kind; stopped = stands.stopped; place = in_hand (went s c out path p stands.of_kind is) }
+worked_by s c out path p stands true is = record { device = stands.device; of_kind = stands.of_kind; stopped = stands.stopped; counted = stands.counted; place = at_ready (finished s c out path p stands.device stands.of_kind is) }
+worked_by s c out path p stands false is = record { device = stands.device; of_kind = stands.of_kind; stopped = stands.stopped; counted = stands.counted; place = in_hand (went s c out path p stands.of_kind is) }
 
 hand_turns : (s : Side) (c : Core) (out : List Ending) (path : List Message) (p : InHand s c out path) → Stands s c out path → Stands s (turned c c.given) out path
 hand_turns s c out path p stands =
@@ -150,7 +150,7 @@ ready_ends s c out path e p stands is =
     (record {
       device = stands.device;
       of_kind = stands.of_kind;
-      stopped = stands.stopped;
+      stopped = stands.stopped; counted = stands.counted;
       place = sent (record {
         own = p.own; stop = p.stop; it = p.it; how = p.how; count = c.taken; is = p.is; number = p.number; asked = p.asked; allowed = p.allowed;
         idle = p.idle; unready = refl; sent = appended out _ e p.empty facts.1; store = p.store; only = p.only; way = p.way;
