@@ -3,3 +3,4 @@ pub mod Takes
 pub mod Turns
 pub mod Roads
 pub mod LinkMoves
+pub mod DeviceWalk
