@@ -4,3 +4,4 @@ pub mod Turns
 pub mod Roads
 pub mod LinkMoves
 pub mod DeviceWalk
+pub mod Meets
