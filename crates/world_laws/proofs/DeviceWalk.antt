@@ -137,7 +137,7 @@ turned_keeps : (P : Devices → Type 0) (same : Bool) (n : ℕ) (st : State) →
 turned_keeps P true n st has = has
 turned_keeps P false n st has = has
 
-dispatched_keeps : (P : Devices → Type 0) (n : ℕ) (st : State) → Of P st → Of P (dispatched n st).state
+pub dispatched_keeps : (P : Devices → Type 0) (n : ℕ) (st : State) → Of P st → Of P (dispatched n st).state
 unfolding dispatched
 dispatched_keeps P n st has = turned_keeps P (delays st || is_current (chosen st.base) st.base.cur) n st has
 

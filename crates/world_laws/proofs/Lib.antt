@@ -5,3 +5,5 @@ pub mod Roads
 pub mod LinkMoves
 pub mod DeviceWalk
 pub mod Meets
+pub mod Arrivals
+pub mod Worlds

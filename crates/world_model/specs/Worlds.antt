@@ -7,6 +7,7 @@ use Rattle.tk_types.specs.declared.run.End.{End as RunEnd}
 use Rattle.tk_types.specs.declared.run.End.TheVariants as ends
 use Rattle.kernel_model.specs.Words.Orders.{entry}
 use Rattle.device_model.specs.declared.messages.Ending.{Ending}
+use Rattle.device_model.specs.Devices.Tables.{Devices}
 use Rattle.machine_model.specs.States.State.{State, taken}
 use Rattle.machine_model.specs.Events.Follow.{Event}
 use Rattle.machine_model.specs.Events.Arrivals.{arrived}
@@ -35,6 +36,9 @@ world_start script mode budget = record {
 
 abbrev pub road_at : World → ℕ → Option Road
 road_at w d = entry w.roads d
+
+abbrev pub devices_of : World → Devices
+devices_of w = w.state.objects.devices
 
 -- ---- the kernel's steps
 
