@@ -7,3 +7,4 @@ pub mod DeviceWalk
 pub mod Meets
 pub mod Arrivals
 pub mod Worlds
+pub mod Sounds
