@@ -8,3 +8,4 @@ pub mod Meets
 pub mod Arrivals
 pub mod Worlds
 pub mod Sounds
+pub mod Requests
