@@ -9,3 +9,5 @@ pub mod Arrivals
 pub mod Worlds
 pub mod Sounds
 pub mod Requests
+pub mod Once
+pub mod Everywhere

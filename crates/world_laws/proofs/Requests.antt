@@ -1,6 +1,6 @@
 -- Requests through the steps of the world: each step is moves on devices, an ending that comes out of an outbox is fit, and a request
 -- ends aborted only where that was asked.
-use Rattle.std.proofs.Common.{◌≡◌, ℕ, ◌+◌, Bool, true, false, List, [], ◌∷◌, Option, Some, None, refl, ap, sym, subst, ◌∙◌, ◌⊎◌, inl, inr}
+use Rattle.std.proofs.Common.{◌≡◌, ℕ, zero, suc, arith, ◌+◌, Bool, true, false, List, [], ◌∷◌, Option, Some, None, refl, ap, sym, subst, ◌∙◌, ◌⊎◌, inl, inr}
 use Rattle.std.specs.Prelude.{◌&&◌, fold, if◌then◌else◌, slice_set}
 use Rattle.std.specs.Option.{is_some, option_map}
 use Rattle.tk_types.specs.declared.error_code.Er.{Er}
@@ -164,6 +164,18 @@ slot_set Q rows i slot written before id row there = by_slot (slot_of rows i id 
     by_slot : ((id ≡ i) × (slot ≡ Some row)) ⊎ (entry rows id ≡ Some row) → Q id row
     by_slot (inl both) = subst (λ (n : ℕ). Q n row) (sym both.0) (written row both.1)
     by_slot (inr old) = before id row old
+
+-- a slot that was written, or another one
+pub slot_apart : {A : Type 0} (xs : List (Option A)) (i j : ℕ) (y : Option A) (r : A) → entry (slice_set xs i y) j ≡ Some r → ((j ≡ i) × (y ≡ Some r)) ⊎ ((j ≡ i → ⊥) × (entry xs j ≡ Some r))
+slot_apart [] i j y r there = absurd (cc there)
+slot_apart (x ∷ xs) zero zero y r there = inl (refl, there)
+slot_apart (x ∷ xs) zero (suc j) y r there = inr (λ is. omega (arith, is), there)
+slot_apart (x ∷ xs) (suc i) zero y r there = inr (λ is. omega (arith, is), there)
+slot_apart {A = A} (x ∷ xs) (suc i) (suc j) y r there = up (slot_apart xs i j y r there)
+  where
+    up : ((j ≡ i) × (y ≡ Some r)) ⊎ ((j ≡ i → ⊥) × (entry xs j ≡ Some r)) → ((suc j ≡ suc i) × (y ≡ Some r)) ⊎ ((suc j ≡ suc i → ⊥) × (entry (x ∷ xs) (suc j) ≡ Some r))
+    up (inl both) = inl (ap (λ (n : ℕ). suc n) both.0, both.1)
+    up (inr old) = inr (λ is. old.0 (omega (arith, is)), old.1)
 
 -- it holds of requests that are new, and of those that go to their drivers
 record IsRowProof (Q : ℕ → Row → Type 0) : Type 0 where
