@@ -1,6 +1,6 @@
 -- What a driver's core comes to by a block, and by an Abort.
-use Rattle.std.proofs.Common.{◌≡◌, ℕ, ◌+◌, ◌*◌, Bool, true, false, List, [], length, Option, Some, None, refl, ap, sym, subst, ◌∙◌}
-use Rattle.std.specs.Prelude.{◌==◌, if◌then◌else◌}
+use Rattle.std.proofs.Common.{◌≡◌, ℕ, ◌+◌, ◌*◌, Bool, true, false, [], length, Option, Some, None, refl, ap, sym, subst, ◌∙◌}
+use Rattle.std.specs.Prelude.{if◌then◌else◌}
 use Rattle.tk_types.specs.declared.error_code.Er.{Er}
 use Rattle.tk_types.specs.declared.error_code.Er.TheVariants as er
 use Rattle.tk_types.specs.declared.line.How.TheVariants.{Cut, Done}
@@ -9,14 +9,14 @@ use Rattle.device_model.specs.RoomyBytes.{RoomyBytes}
 use Rattle.device_model.specs.declared.messages.Ending.{Ending}
 use Rattle.device_model.specs.declared.messages.Request.{Request}
 use Rattle.device_model.specs.Units.Stores.{Store}
-use Rattle.device_model.specs.Units.Function.{Served, block_size}
+use Rattle.device_model.specs.Units.Function.{block_size}
 use Rattle.device_model.specs.Units.Blocks.{Partial, block, is_last}
 use Rattle.device_model.specs.Devices.Endings.{ending_of}
 use Rattle.driver_model.specs.Ends.{error_at, size_at}
-use Rattle.driver_model.specs.Cores.{Core, aborted, cut_off, cut_served, done, done_served, next_block, readied, went_on, worked}
+use Rattle.driver_model.specs.Cores.{Core, aborted, cut_off, done, next_block, went_on, worked}
 use Rattle.dev_units.specs.declared.block_end.BlockEnd.{BlockEnd}
 use Rattle.dev_units.specs.declared.block_end.BlockEnd.TheVariants.{Ended, More}
-use Rattle.dev_units.specs.Cores.{Progress, as_it_came, came_with, has_number, holding, request_in, served_with}
+use Rattle.dev_units.specs.Cores.{Progress, as_it_came, has_number, holding, request_in, served_with}
 use Rattle.dev_units.specs.Ends.{block_end}
 use Rattle.dev_units.specs.Progress.{partial}
 

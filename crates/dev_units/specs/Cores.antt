@@ -1,15 +1,14 @@
 -- What contracts see of a request that a driver works on, and of the driver.
-use Rattle.std.specs.Prelude.{ℕ, Bool, ◌==◌, ◌≡◌, ◌≤◌, ◌<◌, ◌+◌, ◌*◌, ◌^◌, true, false, if◌then◌else◌, List, [], length, Option, Some, None}
+use Rattle.std.specs.Prelude.{ℕ, Bool, ◌==◌, ◌≡◌, ◌<◌, ◌+◌, ◌*◌, ◌^◌, true, false, if◌then◌else◌, List, [], length, Option, Some, None}
 use Rattle.tk_types.specs.declared.error_code.Er.{Er}
 use Rattle.device_model.specs.RoomyBytes.{RoomyBytes}
-use Rattle.device_model.specs.declared.messages.Ending.{Ending}
 use Rattle.device_model.specs.declared.messages.Message.{Message}
 use Rattle.device_model.specs.declared.messages.Message.TheVariants as message
 use Rattle.device_model.specs.declared.messages.Request.{Request}
 use Rattle.device_model.specs.Units.Stores.{Store}
 use Rattle.device_model.specs.Units.Function.{IsWhole, Served, block_size}
 use Rattle.driver_model.specs.Cores.{Core}
-use Rattle.dev_units.specs.Views.{HasBytes, HasRoom, UnitState}
+use Rattle.dev_units.specs.Views.{HasBytes, HasRoom}
 
 -- a request under way, as it came; blocks that are done, empty turns since the last of them, and bytes that were read
 pub record Progress : Type 0 where

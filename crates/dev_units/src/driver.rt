@@ -1,9 +1,8 @@
 //! The driver of a device, without a thread.
 
-ghost use Rattle.std.specs.Prelude.{◌≡◌, ◌<◌, ◌+◌, ◌-◌, ◌^◌, true, None, Some};
-ghost use Rattle.device_model.specs.Units.Stores.{store_start};
+ghost use Rattle.std.specs.Prelude.{◌≡◌, ◌<◌, ◌+◌, ◌-◌, ◌^◌, true, IfOk, None, Some};
 ghost use Rattle.device_model.specs.Units.Function.{IsWhole};
-ghost use Rattle.driver_model.specs.Cores.{aborted, after_block, after_ending, after_message, begun, core_start, ending_out, has_work, is_empty_turn, turned, worked};
+ghost use Rattle.driver_model.specs.Cores.{aborted, after_block, after_ending, after_message, begun, core_start, ending_out, has_work, is_empty_turn, is_idle, turned, worked};
 ghost use Rattle.dev_units.specs.Cores.{MayTake, has_number, holding};
 
 use crate::block_end::BlockEnd;
@@ -34,25 +33,25 @@ impl Model for DriverCore {
     ghost Value = { Core };
 
     ghost view = { λ core. record {
-        device = core.device;
-        kind = core.unit.kind;
-        store = core.unit.store;
-        given = request_in core.serving;
-        blocks = blocks_in core.serving;
-        turns = turns_in core.serving;
-        content = content_in core.serving;
-        ready = core.ready;
-        stopped = core.stopped;
-        taken = core.taken;
+      device = core.device;
+      kind = core.unit.kind;
+      store = core.unit.store;
+      given = request_in core.serving;
+      blocks = blocks_in core.serving;
+      turns = turns_in core.serving;
+      content = content_in core.serving;
+      ready = core.ready;
+      stopped = core.stopped;
+      taken = core.taken;
     } };
 }
 
 impl DriverCore {
-    /// The driver of a device with its unit, which has no request and has taken no message. It takes no memory.
-    pub fn new(alloc: Global, device: u8, unit: Unit) -> DriverCore
-        ensures { unit.store ≡ store_start unit.kind → result ≡ core_start device unit.kind }
+    /// The driver of a device with its unit, which has no request and has taken no message.
+    pub fn new(alloc: Global, device: u8, unit: Unit) -> Result<DriverCore, OutOfMemory>
+        ensures { IfOk result (λ core. core ≡ record (core_start device unit.kind) { store = unit.store }) }
     {
-        DriverCore {
+        Ok(DriverCore {
             alloc,
             device,
             unit,
@@ -60,7 +59,21 @@ impl DriverCore {
             ready: None,
             stopped: false,
             taken: 0,
-        }
+        })
+    }
+
+    /// Whether the driver has neither a request nor an ending that is ready. A Serve may come then.
+    pub fn is_idle(&self) -> bool
+        ensures { result ≡ is_idle self.now }
+    {
+        self.serving.is_none() && self.ready.is_none()
+    }
+
+    /// How many messages the driver has taken.
+    pub fn taken_so_far(&self) -> u64
+        ensures { result ≡ self.now.taken }
+    {
+        self.taken
     }
 
     /// Takes a message. A Serve begins its request; it has a whole request, and the driver has none then, and no ending that is
@@ -149,7 +162,8 @@ impl DriverCore {
         ensures empty { result ≡ is_empty_turn (holding self.now (Some serving.now)) serving.now.request }
         ensures few { result ≡ true → serving.now.turns + 1 < 2 ^ 32 }
     {
-        serving.turns < self.unit.empty_turns() && self.unit.has_block(&serving.request, serving.blocks)
+        serving.turns < self.unit.empty_turns()
+            && self.unit.has_block(&serving.request, serving.blocks)
     }
 
     /// Does the next block of a request, which the driver has no more.

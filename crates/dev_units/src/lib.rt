@@ -5,6 +5,8 @@
 mod block_end;
 mod count;
 mod driver;
+#[cfg(test)]
+mod driver_tests;
 mod lists;
 mod serving;
 #[cfg(test)]

@@ -66,7 +66,14 @@ impl Serving {
 }
 
 /// The ending of a request that has brought these bytes: a write brings none, and has no room for any.
-pub(crate) fn ending(device: u8, request: Request, out: Bytes, how: How, size: u32, error: Er) -> Ending
+pub(crate) fn ending(
+    device: u8,
+    request: Request,
+    out: Bytes,
+    how: How,
+    size: u32,
+    error: Er,
+) -> Ending
     requires { request.write ≡ true → out ≡ record { items = []; room = 0 } }
     ensures { (store : Store) → result ≡ ending_of device (as_it_came request out) how (served_with store size error out.items) }
 {

@@ -2,7 +2,6 @@ use Rattle.std.proofs.Common.{◌≡◌, Some, sym, subst, ◌∙◌}
 use Rattle.driver_model.specs.Cores.{Core, worked}
 use Rattle.dev_units.specs.Cores.{Progress, holding}
 use Rattle.dev_units.specs.contracts.driver.DriverCore.{the_view}
-use Rattle.dev_units.specs.contracts.serving.Serving.{the_view as the_progress}
 use Rattle.dev_units.proofs.Drivers.{finished_so, went_so}
 use Rattle.dev_units.proofs.driver.DriverCore.work.Goals as goal
 
