@@ -11,3 +11,4 @@ pub mod Sounds
 pub mod Requests
 pub mod Once
 pub mod Everywhere
+pub mod Owns

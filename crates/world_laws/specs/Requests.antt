@@ -1,8 +1,10 @@
 -- What becomes of requests from one world to the next.
 use Rattle.std.specs.Prelude.{◌≡◌, ℕ, ◌⊎◌, Bool, true, false, Option, Some, None}
-use Rattle.tk_types.specs.declared.error_code.Er.{Er}
-use Rattle.tk_types.specs.declared.error_code.Er.TheVariants as er
-use Rattle.device_model.specs.declared.rows.Life.TheVariants.{Ended}
+use Rattle.tk_types.specs.declared.answer.Answer.{Answer}
+use Rattle.device_model.specs.declared.rows.Transfer.{Transfer}
+use Rattle.device_model.specs.Devices.Endings.{DevParts}
+use Rattle.device_model.specs.Devices.Requests.{accept}
+use Rattle.device_laws.specs.Claims.{IsClaim}
 use Rattle.device_model.specs.Devices.Tables.{Devices, Given, Link, Row, is_at_driver, link_at, row_at}
 use Rattle.device_model.specs.Devices.MoveProofs.{is_aborted}
 
@@ -24,13 +26,10 @@ pub record IsAbortAsked (before after : Devices) : Type 0 where
   pub so : (id : ℕ) (row : Row) → row_at after id ≡ Some row → is_aborted row.life ≡ true →
       (row_at before id ≡ Some row) ⊎ ((d : ℕ) × WasAsked before d id row.serial)
 
--- how a request that has ended did so
-pub data Outcome : Type 0 where
-  Completed : Outcome
-  Failed : (error : Er) → Outcome
-  Aborted : Outcome
-
-abbrev pub outcome_of : Er → Outcome
-outcome_of er.Ok = Completed
-outcome_of er.Abort = Aborted
-outcome_of error = Failed error
+-- a call that stays for its own request, which ends as it is accepted, is told that: the request has the next serial, and is let go
+pub record HandsOutOwn (p : DevParts) (dd : ℕ) (answer : Answer) (after : DevParts) : Type 0 where
+  pub device : ℕ
+  pub id : ℕ
+  pub transfer : Transfer
+  pub claim : IsClaim (accept p device id transfer).table dd id true answer after.table
+  pub very : claim.row.serial ≡ p.table.serial

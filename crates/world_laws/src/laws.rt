@@ -1,6 +1,6 @@
 //! The law of the world, the contract of a function that does nothing.
 
-ghost use Rattle.std.specs.Prelude.{◌≡◌, ℕ, ℤ, true, false, List, ◌∷◌, Some, None};
+ghost use Rattle.std.specs.Prelude.{◌≡◌, ◌⊎◌, ℕ, ℤ, true, false, List, ◌∷◌, Some, None};
 ghost use Rattle.std.specs.Int.{is_negative};
 ghost use Rattle.std.specs.Option.{is_some};
 ghost use Rattle.tk_types.specs.declared.answer.Answer.{Answer};
@@ -18,7 +18,7 @@ ghost use Rattle.device_laws.specs.Requests.{AreApart, IsGone, StaysSo};
 ghost use Rattle.machine_model.specs.Events.Arrivals.{arrived};
 ghost use Rattle.world_model.specs.Roads.{Road};
 ghost use Rattle.world_model.specs.Worlds.{Step, all_stepped, devices_of, road_at, stepped};
-ghost use Rattle.world_laws.specs.Requests.{IsAbortAsked};
+ghost use Rattle.world_laws.specs.Requests.{HandsOutOwn, IsAbortAsked};
 ghost use Rattle.world_laws.specs.Sound.{AreSound};
 ghost use Rattle.world_laws.specs.Words.{Everywhere};
 
@@ -31,12 +31,14 @@ ghost use Rattle.world_laws.specs.Words.{Everywhere};
 /// with the Stop.
 ///
 /// An ending that comes out of an outbox is always fit (`fit`). No two requests have one serial (`apart`); one that has ended
-/// stays just as it ended, while it is there (`ended`), and one that was let go never comes back (`gone`). A request ends aborted
-/// only where its driver had it and was asked to abort it (`aborted`).
+/// stays just as it ended, while it is there (`ended`), and one that was let go never comes back (`gone`). It was completed where
+/// its error is E_OK, aborted where it is E_ABORT, and failed with any other; and it ends aborted only where its driver had it and
+/// was asked to abort it (`aborted`).
 ///
 /// What `tk_wai_dev` hands out is the ending of a request of the descriptor that it names, of the very request unless it asks with
-/// 0 (`call`); what any call gets that waited for an ending is the same of what it waits for (`serving`); and it is handed out
-/// once, since the request is let go with it (`once`).
+/// 0 (`call`); what any call gets that waited for an ending is the same of what it waits for (`serving`). `tk_srea_dev` and
+/// `tk_swri_dev` that answer at once were refused, or hand out the ending of the request that they made, which was for the event
+/// buffer (`own_read`, `own_write`). And an ending is handed out once, since the request is let go with it (`once`).
 pub fn world()
     ensures roads { Everywhere (λ w. (d : ℕ) → AreSound (is_some w.over) d (link_at (devices_of w) d) (road_at w d)) }
     ensures fit { Everywhere (λ w. (d : ℕ) (road : Road) (ending : Ending) (later : List Ending) → w.over ≡ None → road_at w d ≡ Some road →
@@ -50,5 +52,13 @@ pub fn world()
         (device_call p who (call.WaiDev descriptor named timeout)).outcome ≡ Returned answer → is_negative answer.value ≡ false →
         HandsOut p (natural descriptor) (natural named) answer (device_call p who (call.WaiDev descriptor named timeout)).parts }
     ensures serving { (p after : DevParts) → serve_endings p ≡ Some after → (dd : ℕ) × Serves p dd after }
+    ensures own_read { (p : DevParts) (who : Who) (descriptor start address size : ℤ) (answer : Answer) →
+        (device_call p who (call.SreaDev descriptor start address size)).outcome ≡ Returned answer →
+        ((device_call p who (call.SreaDev descriptor start address size)).parts ≡ p)
+        ⊎ HandsOutOwn p (natural descriptor) answer (device_call p who (call.SreaDev descriptor start address size)).parts }
+    ensures own_write { (p : DevParts) (who : Who) (descriptor start address size : ℤ) (answer : Answer) →
+        (device_call p who (call.SwriDev descriptor start address size)).outcome ≡ Returned answer →
+        ((device_call p who (call.SwriDev descriptor start address size)).parts ≡ p)
+        ⊎ HandsOutOwn p (natural descriptor) answer (device_call p who (call.SwriDev descriptor start address size)).parts }
     ensures once { (dv : Devices) (id : ℕ) (row : Row) → AreApart dv → row_at dv id ≡ Some row → has_ended row.life ≡ true → IsGone row.serial (dropped dv id) }
 {}

@@ -4,6 +4,7 @@ use Rattle.device_laws.specs.Requests.{AreApart, IsGone, StaysSo}
 use Rattle.device_laws.proofs.Claims.{endings_serve, wait_hands_out}
 use Rattle.device_laws.proofs.Lives.{apart_at_first, stay_apart, stays_gone}
 use Rattle.world_laws.proofs.Once.{dropped_gone}
+use Rattle.world_laws.proofs.Owns.{read_hands_out, write_hands_out}
 use Rattle.world_laws.proofs.Everywhere.{always_apart, always_fit, always_sound, ended_stays}
 use Rattle.world_laws.proofs.Requests.{step_aborts, steps_keep}
 use Rattle.world_laws.proofs.laws.world.Goals as goal
@@ -31,6 +32,12 @@ returns-clause-call c = wait_hands_out
 
 pub returns-clause-serving : goal.returns-clause-serving
 returns-clause-serving c = endings_serve
+
+pub returns-clause-own_read : goal.returns-clause-own_read
+returns-clause-own_read c = read_hands_out
+
+pub returns-clause-own_write : goal.returns-clause-own_write
+returns-clause-own_write c = write_hands_out
 
 pub returns-clause-once : goal.returns-clause-once
 returns-clause-once c = dropped_gone
