@@ -1,6 +1,6 @@
 -- What a driver does with a request, block by block, is what its unit does with it: with the last block as a whole, and where
 -- it is cut off before.
-use Rattle.std.proofs.Common.{◌≡◌, ℕ, suc, ◌≤◌, ◌<◌, ◌+◌, ◌*◌, ◌⊎◌, inl, inr, Bool, true, false, List, [], refl, ap, sym, subst, ◌∙◌, arith}
+use Rattle.std.proofs.Common.{◌≡◌, ℕ, suc, ◌≤◌, ◌<◌, ◌+◌, ◌*◌, ◌⊎◌, inl, inr, Bool, true, false, List, refl, ap, sym, ◌∙◌, arith}
 use Rattle.std.specs.Prelude.{if◌then◌else◌, ◌==◌, ◌||◌, ◌&&◌, ◌%◌, nat_le, nat_lt}
 use Rattle.std.proofs.lemmas.Bool.Decides.{nat_tests}
 use Rattle.tk_types.specs.declared.error_code.Er.{Er}
@@ -10,7 +10,7 @@ use Rattle.device_model.specs.RoomyBytes.{RoomyBytes}
 use Rattle.device_model.specs.declared.messages.Request.{Request}
 use Rattle.device_model.specs.Units.Stores.{Store, is_log, is_spoilt}
 use Rattle.device_model.specs.Units.Function.{IsWhole, Served, appends, available, begin, block_size, count_of, cut, error_of, may_cut, moved, size_of, unit}
-use Rattle.device_model.specs.Units.Blocks.{Partial, block, blocks, count_at, is_last}
+use Rattle.device_model.specs.Units.Blocks.{Partial, blocks, count_at, is_last}
 use Rattle.unit_laws.proofs.Blocks.{blocks_cut, blocks_part, blocks_whole, last_known, nothing_written, whole_of}
 use Rattle.unit_laws.proofs.Counts.{count_same}
 use Rattle.driver_model.specs.Ends.{error_at, size_at}

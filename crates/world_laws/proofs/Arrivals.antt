@@ -1,6 +1,6 @@
 -- What the arrival of an ending is made of, and that the ending of the request that is with a driver is fit.
-use Rattle.std.proofs.Common.{◌≡◌, ℕ, Bool, true, false, List, [], ◌∷◌, Option, Some, None, refl, ap, sym, subst, ◌∙◌}
-use Rattle.std.specs.Prelude.{if◌then◌else◌, ◌==◌, ◌&&◌, bytes_eq}
+use Rattle.std.proofs.Common.{◌≡◌, ℕ, Bool, true, false, List, [], ◌∷◌, Option, Some, None, refl, ap, ◌∙◌}
+use Rattle.std.specs.Prelude.{if◌then◌else◌, ◌&&◌}
 use Rattle.std.specs.Option.{is_some}
 use Rattle.std.proofs.lemmas.Bool.Decides.{Decides-eqb, Decides-int_eq}
 use Rattle.std.proofs.lemmas.Slice.Eq.{bytes_eq-Decides}
@@ -12,7 +12,7 @@ use Rattle.device_model.specs.declared.messages.Request.{Request}
 use Rattle.device_model.specs.declared.rows.Opened.{Opened}
 use Rattle.device_model.specs.Units.Function.{Served}
 use Rattle.device_model.specs.Devices.Tables.{Devices, Given, Link, Row, is_at_driver, link_at, opened_at, row_at}
-use Rattle.device_model.specs.Devices.Endings.{DevParts, arrive, arrive_fit, arrive_given, arrive_link, arrive_row, closed, closed_after, ended_at, ending_of, free_unless, is_allowed, is_error, is_fit, landed, says, served_of}
+use Rattle.device_model.specs.Devices.Endings.{DevParts, arrive, arrive_fit, arrive_given, arrive_link, arrive_row, closed, closed_after, ended_at, ending_of, free_unless, is_allowed, is_fit, landed, says, served_of}
 use Rattle.device_model.specs.Devices.MoveProofs.{IsMoveProof}
 
 -- ---- what has arrived

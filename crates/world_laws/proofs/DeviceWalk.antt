@@ -40,19 +40,19 @@ use Rattle.device_model.specs.Devices.Servings.{serve_acceptances, serve_closes,
 use Rattle.context_model.specs.Contexts.Tables.{depth_in, handler_of, left}
 use Rattle.device_model.specs.Devices.Tables.{Devices}
 use Rattle.device_model.specs.Devices.Endings.{DevParts}
-use Rattle.device_model.specs.Devices.Handing.{any_given, any_queued, hand_over}
+use Rattle.device_model.specs.Devices.Handing.{any_given, any_queued}
 use Rattle.device_model.specs.Devices.MoveProofs.{IsMoveProof}
 use Rattle.device_lemmas.proofs.Walk.{Kept, acceptances_keep, calls_keep, closes_keep, endings_keep, hand_first_keeps, hand_over_keeps, suspension_keeps}
 use Rattle.machine_model.specs.declared.turns.Turn.{Turn}
 use Rattle.machine_model.specs.declared.turns.Turn.TheVariants as turns
 use Rattle.machine_model.specs.States.Objects.{Parts, dev_parts, first_serving, kinds, mail_parts, pool_parts, serve_object, with_devices, with_mails, with_mutexes, with_pools, with_sem_flags}
-use Rattle.machine_model.specs.States.State.{State, frame_of, parts_of, who_of, with_frame, with_parts}
+use Rattle.machine_model.specs.States.State.{State, frame_of, parts_of, who_of, with_frame}
 use Rattle.machine_model.specs.Events.Settle.{freed_within, handed, refreshed, served_within, settle, with_freed}
 use Rattle.machine_model.specs.Events.Follow.{delays, dispatched, follow_each, follow_release, followed, settled, turned, with_releases}
 use Rattle.machine_model.specs.Events.Bodies.{begun, body_returned, entered, noted, returned, undefined, with_start, withdrawn}
 use Rattle.machine_model.specs.Events.Calls.{answered, called, ended_by, family_call, without_holdings}
 use Rattle.machine_model.specs.Events.Handlers.{due_begun, first_taken, handler_begun, insert_once, interrupt_begun, requested, with_requests}
-use Rattle.machine_model.specs.Events.Ticks.{due_done, fallen, limit_answer, tick, tick_state}
+use Rattle.machine_model.specs.Events.Ticks.{due_done, fallen, limit_answer, tick}
 use Rattle.machine_model.specs.Runs.Turns.{acted, done_turn, fell_in, ran, turn_of}
 use Rattle.machine_model.specs.Runs.Step.{Ends, Needs, Pace, Went, any_unfinished, counted, ended_or_went, handed_if, has_event, is_paced, is_quiet, made_pending, needed, needed_or, needed_sync, needs_if, step, step_if, with_first_handed, worked}
 
@@ -94,17 +94,34 @@ first_serves P (kind ∷ later) p each = or_serves P (kind p) (first_serving lat
 
 object_keeps : (P : Devices → Type 0) → IsMoveProof P → (p : Parts) → P p.objects.devices → OfParts P (serve_object p)
 unfolding serve_object
-object_keeps P is p has = first_serves P kinds p
-    (beside P (with_sem_flags p) (serve_sem_flag p.base p.objects.sem_flags) (λ x. has),
-    (beside P (with_mails p) (serve_mailboxes (mail_parts p)) (λ x. has),
-    (beside P (with_mutexes p) (serve_mutexes p.base p.objects.mutexes) (λ x. has),
-    (beside P (with_mails p) (serve_buffers (mail_parts p)) (λ x. has),
-    (beside P (with_pools p) (serve_fixed_pools (pool_parts p)) (λ x. has),
-    (beside P (with_pools p) (serve_variable_pools (pool_parts p)) (λ x. has),
-    (of_devices P p (serve_acceptances (dev_parts p)) (acceptances_keep P is (dev_parts p) has),
-    (of_devices P p (serve_endings (dev_parts p)) (endings_keep P is (dev_parts p) has),
-    (of_devices P p (serve_closes (dev_parts p)) (closes_keep P is (dev_parts p) has),
-    (of_devices P p (serve_suspension (dev_parts p)) (suspension_keeps P (dev_parts p) has), tt))))))))))
+object_keeps P is p has = first_serves P kinds p (
+  beside P (with_sem_flags p) (serve_sem_flag p.base p.objects.sem_flags) (λ x. has),
+  (
+    beside P (with_mails p) (serve_mailboxes (mail_parts p)) (λ x. has),
+    (
+      beside P (with_mutexes p) (serve_mutexes p.base p.objects.mutexes) (λ x. has),
+      (
+        beside P (with_mails p) (serve_buffers (mail_parts p)) (λ x. has),
+        (
+          beside P (with_pools p) (serve_fixed_pools (pool_parts p)) (λ x. has),
+          (
+            beside P (with_pools p) (serve_variable_pools (pool_parts p)) (λ x. has),
+            (
+              of_devices P p (serve_acceptances (dev_parts p)) (acceptances_keep P is (dev_parts p) has),
+              (
+                of_devices P p (serve_endings (dev_parts p)) (endings_keep P is (dev_parts p) has),
+                (
+                  of_devices P p (serve_closes (dev_parts p)) (closes_keep P is (dev_parts p) has),
+                  (of_devices P p (serve_suspension (dev_parts p)) (suspension_keeps P (dev_parts p) has), tt),
+                ),
+              ),
+            ),
+          ),
+        ),
+      ),
+    ),
+  ),
+)
 
 served_cases : (P : Devices → Type 0) (left_over : ℕ) (p : Parts) (found : Option Parts) → P p.objects.devices → OfParts P found →
     ((q : Parts) → P q.objects.devices → P (served_within left_over (refreshed q)).objects.devices) →

@@ -1,11 +1,11 @@
 -- What holds in every world.
-use Rattle.std.proofs.Common.{◌≡◌, ℕ, Bool, true, List, [], ◌∷◌, Option, Some, None, refl, subst}
+use Rattle.std.proofs.Common.{◌≡◌, ℕ, true, List, ◌∷◌, Some, None}
 use Rattle.std.specs.Option.{is_some}
 use Rattle.tk_types.specs.declared.run.Mode.{Mode}
 use Rattle.tk_types.specs.declared.script.Script.{Script}
 use Rattle.device_model.specs.declared.messages.Ending.{Ending}
-use Rattle.device_model.specs.Devices.Tables.{Devices, Row, devices_start, has_ended, link_at, row_at}
-use Rattle.device_laws.specs.Requests.{AreApart, AreTied, IsGone, StaysSo}
+use Rattle.device_model.specs.Devices.Tables.{Row, has_ended, link_at, row_at}
+use Rattle.device_laws.specs.Requests.{AreApart, AreTied, StaysSo}
 use Rattle.device_laws.proofs.Lives.{apart_at_first, so_now, so_stays, stay_apart}
 use Rattle.device_laws.proofs.Ties.{stay_tied, tied_at_first}
 use Rattle.machine_model.specs.Events.Arrivals.{arrived}

@@ -1,6 +1,6 @@
 -- What the kernel does leaves the road of a device in order: requests that go to the driver, aborts that are asked, endings that
 -- arrive, messages that are taken, and the end of the run.
-use Rattle.std.proofs.Common.{◌≡◌, ℕ, ◌+◌, ◌*◌, ◌≤◌, ◌<◌, ◌⊎◌, Bool, true, false, cond, List, [], ◌∷◌, ◌++◌, Option, Some, None, refl, ap, sym, subst, ◌∙◌, arith}
+use Rattle.std.proofs.Common.{◌≡◌, ℕ, ◌+◌, ◌*◌, ◌≤◌, ◌<◌, ◌⊎◌, Bool, true, false, List, [], ◌∷◌, ◌++◌, Option, Some, None, refl, ap, sym, subst, ◌∙◌, arith}
 use Rattle.std.specs.Prelude.{◌&&◌}
 use Rattle.std.proofs.lemmas.List.{append_assoc, append-nil}
 use Rattle.tk_types.specs.declared.line.How.{How}
@@ -9,14 +9,13 @@ use Rattle.device_model.specs.declared.messages.Ending.{Ending}
 use Rattle.device_model.specs.declared.messages.Message.{Message}
 use Rattle.device_model.specs.declared.messages.Message.TheVariants as message
 use Rattle.device_model.specs.declared.messages.Request.{Request}
-use Rattle.device_model.specs.Units.Stores.{Store}
 use Rattle.device_model.specs.Units.Function.{IsWhole, begin, block_size, count_of, may_cut}
 use Rattle.device_model.specs.Units.Blocks.{blocks}
 use Rattle.device_model.specs.Devices.Tables.{Given, Link, link_asked, link_handed}
 use Rattle.device_model.specs.Devices.Endings.{ending_of, is_allowed, served_of}
 use Rattle.driver_model.specs.Cores.{Core}
 use Rattle.world_model.specs.Roads.{Road, given_to}
-use Rattle.world_laws.proofs.Places.{AtReady, InHand, IsBefore, IsSent, Nowhere, OnWay, Place, Side, Stands, at_ready, in_hand, nowhere, old_aborts, on_way, own_aborts, sent, stops}
+use Rattle.world_laws.proofs.Places.{IsBefore, IsSent, Nowhere, Place, Stands, at_ready, in_hand, nowhere, old_aborts, on_way, own_aborts, sent, stops}
 use Rattle.world_laws.proofs.Roads.{Keeps, side_of, way_of}
 
 -- a message that the kernel gives is the last on the way
@@ -47,8 +46,20 @@ handed_way d request (Some number) false none = refl
 hands_from : (d : ℕ) (link : Link) (request : Request) (c : Core) (out : List Ending) (path : List Message) → IsWhole request → request.number ≡ link.number + 1 → Nowhere (side_of false d link) c out path →
     Place (side_of false d (link_handed d link request)) c out (path ++ message.Serve d request ∷ [])
 hands_from d link request c out path whole number p = on_way (record {
-  old = p.old; own = false; stop = false; it = record { request = request; asked = false }; is = refl; number = number; whole = whole; asked = refl;
-  idle = p.idle; unready = p.unready; empty = p.empty; store = p.store; before = before_more (link.number + 1) request.number p.old number p.before; only = λ no. absurd (cc no);
+  old = p.old;
+  own = false;
+  stop = false;
+  it = record { request = request; asked = false };
+  is = refl;
+  number = number;
+  whole = whole;
+  asked = refl;
+  idle = p.idle;
+  unready = p.unready;
+  empty = p.empty;
+  store = p.store;
+  before = before_more (link.number + 1) request.number p.old number p.before;
+  only = λ no. absurd (cc no);
   way = ap (λ (w : List Message). w ++ message.Serve d request ∷ []) p.way ∙ handed_way d request p.old p.stop (no_stop p.stop p.only);
 })
 
@@ -111,8 +122,20 @@ asks_place d link given c out path has not (on_way p) =
     let asked : p.own ≡ false = sym p.asked ∙ (ap (λ (g : Given). g.asked) same ∙ not) in
     let whole : IsWhole given.request = subst (λ (g : Given). IsWhole g.request) same p.whole in
     on_way (record {
-      old = p.old; own = true; stop = false; it = asked_of given; is = refl; number = ap (λ (g : Given). g.request.number) (sym same) ∙ p.number; whole = whole; asked = refl;
-      idle = p.idle; unready = p.unready; empty = p.empty; store = p.store; before = subst (λ (g : Given). IsBefore g.request.number p.old) same p.before; only = λ no. absurd (cc no);
+      old = p.old;
+      own = true;
+      stop = false;
+      it = asked_of given;
+      is = refl;
+      number = ap (λ (g : Given). g.request.number) (sym same) ∙ p.number;
+      whole = whole;
+      asked = refl;
+      idle = p.idle;
+      unready = p.unready;
+      empty = p.empty;
+      store = p.store;
+      before = subst (λ (g : Given). IsBefore g.request.number p.old) same p.before;
+      only = λ no. absurd (cc no);
       way = ap (λ (w : List Message). w ++ message.Abort d given.request.number ∷ []) (p.way ∙ ap (λ (g : Given). old_aborts d p.old ++ (message.Serve d g.request ∷ (own_aborts d g.request.number p.own ++ stops d p.stop))) same)
           ∙ old_way d given.request p.old p.own p.stop asked (no_stop p.stop p.only);
     })
@@ -120,9 +143,16 @@ asks_place d link given c out path has not (in_hand p) =
     let same : p.it ≡ given = given_same link.given p.it given p.is has in
     let asked : p.own ≡ false = sym p.asked ∙ (ap (λ (g : Given). g.asked) same ∙ not) in
     in_hand (record {
-      own = true; stop = false; it = asked_of given; is = refl; number = ap (λ (g : Given). g.request.number) (sym same) ∙ p.number;
-      whole = subst (λ (g : Given). IsWhole g.request) same p.whole; asked = refl;
-      works = p.works ∙ ap (λ (g : Given). Some g.request) same; unready = p.unready; empty = p.empty;
+      own = true;
+      stop = false;
+      it = asked_of given;
+      is = refl;
+      number = ap (λ (g : Given). g.request.number) (sym same) ∙ p.number;
+      whole = subst (λ (g : Given). IsWhole g.request) same p.whole;
+      asked = refl;
+      works = p.works ∙ ap (λ (g : Given). Some g.request) same;
+      unready = p.unready;
+      empty = p.empty;
       done = subst (λ (g : Given). block_size * c.blocks ≤ count_of link.kind (begin link.store g.request) g.request) same p.done;
       more = subst (λ (g : Given). (block_size * c.blocks < count_of link.kind (begin link.store g.request) g.request) ⊎ (c.blocks ≡ 0)) same p.more;
       partial = p.partial ∙ ap (λ (g : Given). blocks link.kind link.store g.request c.blocks) same;
@@ -134,10 +164,19 @@ asks_place d link given c out path has not (at_ready p) =
     let same : p.it ≡ given = given_same link.given p.it given p.is has in
     let asked : p.own ≡ false = unasked p.own p.it.asked p.asked (ap (λ (g : Given). g.asked) same ∙ not) in
     at_ready (record {
-      own = true; stop = false; it = asked_of given; how = p.how; is = refl; number = ap (λ (g : Given). g.request.number) (sym same) ∙ p.number; asked = λ own. refl;
+      own = true;
+      stop = false;
+      it = asked_of given;
+      how = p.how;
+      is = refl;
+      number = ap (λ (g : Given). g.request.number) (sym same) ∙ p.number;
+      asked = λ own. refl;
       allowed = allowed_asked d link given p.how (subst (λ (g : Given). is_allowed link.kind link.store g p.how ≡ true) same p.allowed) not;
-      idle = p.idle; ready = p.ready ∙ ap (λ (g : Given). Some (ending_of d g.request p.how (served_of link.kind link.store g.request p.how))) same;
-      empty = p.empty; store = p.store ∙ ap (λ (g : Given). (served_of link.kind link.store g.request p.how).store) same; only = λ no. absurd (cc no);
+      idle = p.idle;
+      ready = p.ready ∙ ap (λ (g : Given). Some (ending_of d g.request p.how (served_of link.kind link.store g.request p.how))) same;
+      empty = p.empty;
+      store = p.store ∙ ap (λ (g : Given). (served_of link.kind link.store g.request p.how).store) same;
+      only = λ no. absurd (cc no);
       way = ap (λ (w : List Message). w ++ message.Abort d given.request.number ∷ []) (p.way ∙ ap (λ (g : Given). own_aborts d g.request.number p.own ++ stops d p.stop) same)
           ∙ own_way d given.request.number p.own p.stop asked (no_stop p.stop p.only);
     })
@@ -145,11 +184,20 @@ asks_place d link given c out path has not (sent p) =
     let same : p.it ≡ given = given_same link.given p.it given p.is has in
     let asked : p.own ≡ false = unasked p.own p.it.asked p.asked (ap (λ (g : Given). g.asked) same ∙ not) in
     sent (record {
-      own = true; stop = false; it = asked_of given; how = p.how; count = p.count; is = refl; number = ap (λ (g : Given). g.request.number) (sym same) ∙ p.number; asked = λ own. refl;
+      own = true;
+      stop = false;
+      it = asked_of given;
+      how = p.how;
+      count = p.count;
+      is = refl;
+      number = ap (λ (g : Given). g.request.number) (sym same) ∙ p.number;
+      asked = λ own. refl;
       allowed = allowed_asked d link given p.how (subst (λ (g : Given). is_allowed link.kind link.store g p.how ≡ true) same p.allowed) not;
-      idle = p.idle; unready = p.unready;
+      idle = p.idle;
+      unready = p.unready;
       sent = p.sent ∙ ap (λ (g : Given). record (ending_of d g.request p.how (served_of link.kind link.store g.request p.how)) { taken = p.count } ∷ []) same;
-      store = p.store ∙ ap (λ (g : Given). (served_of link.kind link.store g.request p.how).store) same; only = λ no. absurd (cc no);
+      store = p.store ∙ ap (λ (g : Given). (served_of link.kind link.store g.request p.how).store) same;
+      only = λ no. absurd (cc no);
       way = ap (λ (w : List Message). w ++ message.Abort d given.request.number ∷ []) (p.way ∙ ap (λ (g : Given). own_aborts d g.request.number p.own ++ stops d p.stop) same)
           ∙ own_way d given.request.number p.own p.stop asked (no_stop p.stop p.only);
     })
@@ -187,7 +235,6 @@ old_before : (number last : ℕ) (own : Bool) → 0 < number → number ≡ last
 old_before number last false some is = tt
 old_before number last true some is = (some, omega (arith, is))
 
-
 -- what comes out of the outbox
 pub record Comes (link : Link) (d : ℕ) (road : Road) (e : Ending) (later : List Ending) : Type 0 where
   pub it : Given
@@ -207,15 +254,27 @@ none_out out e later none is = cc (none, is)
 comes_from : (d : ℕ) (link : Link) (road : Road) (e : Ending) (later : List Ending) → Keeps false d link road → road.outbox ≡ e ∷ later → IsSent (side_of false d link) road.core road.outbox (way_of link road) →
     Comes link d road e later
 comes_from d link road e later keeps out p = record {
-  it = p.it; how = p.how; count = p.count; is = p.is; allowed = p.allowed; same = both.0;
+  it = p.it;
+  how = p.how;
+  count = p.count;
+  is = p.is;
+  allowed = p.allowed;
+  same = both.0;
   keeps = record {
     device = keeps.device;
     of_kind = keeps.of_kind;
     stopped = keeps.stopped;
     counted = λ it is. absurd (cc is);
     place = nowhere (record {
-      old = old_of p.it.request.number p.own; stop = p.stop; none = refl; idle = p.idle; unready = p.unready; empty = both.1; store = p.store;
-      before = old_before p.it.request.number link.number p.own (let counted = keeps.counted p.it p.is in let number = p.number in omega (arith, counted, number)) p.number; only = p.only;
+      old = old_of p.it.request.number p.own;
+      stop = p.stop;
+      none = refl;
+      idle = p.idle;
+      unready = p.unready;
+      empty = both.1;
+      store = p.store;
+      before = old_before p.it.request.number link.number p.own (let counted = keeps.counted p.it p.is in let number = p.number in omega (arith, counted, number)) p.number;
+      only = p.only;
       way = p.way ∙ old_is d p.it.request.number p.own p.stop;
     });
   };
@@ -262,27 +321,82 @@ stopped_way d request (Some number) false false none = refl
 
 stops_place : (d : ℕ) (link : Link) (c : Core) (out : List Ending) (path : List Message) → Place (side_of false d link) c out path → Place (side_of true d link) c out (path ++ message.Stop d ∷ [])
 stops_place d link c out path (nowhere p) = nowhere (record {
-  old = p.old; stop = true; none = p.none; idle = p.idle; unready = p.unready; empty = p.empty; store = p.store; before = p.before; only = λ is. refl;
+  old = p.old;
+  stop = true;
+  none = p.none;
+  idle = p.idle;
+  unready = p.unready;
+  empty = p.empty;
+  store = p.store;
+  before = p.before;
+  only = λ is. refl;
   way = ap (λ (w : List Message). w ++ message.Stop d ∷ []) p.way ∙ stopped_nowhere d p.old p.stop (no_stop p.stop p.only);
 })
 stops_place d link c out path (on_way p) = on_way (record {
-  old = p.old; own = p.own; stop = true; it = p.it; is = p.is; number = p.number; whole = p.whole; asked = p.asked;
-  idle = p.idle; unready = p.unready; empty = p.empty; store = p.store; before = p.before; only = λ is. refl;
+  old = p.old;
+  own = p.own;
+  stop = true;
+  it = p.it;
+  is = p.is;
+  number = p.number;
+  whole = p.whole;
+  asked = p.asked;
+  idle = p.idle;
+  unready = p.unready;
+  empty = p.empty;
+  store = p.store;
+  before = p.before;
+  only = λ is. refl;
   way = ap (λ (w : List Message). w ++ message.Stop d ∷ []) p.way ∙ stopped_way d p.it.request p.old p.own p.stop (no_stop p.stop p.only);
 })
 stops_place d link c out path (in_hand p) = in_hand (record {
-  own = p.own; stop = true; it = p.it; is = p.is; number = p.number; whole = p.whole; asked = p.asked; works = p.works;
-  unready = p.unready; empty = p.empty; done = p.done; more = p.more; partial = p.partial; only = λ is. refl;
+  own = p.own;
+  stop = true;
+  it = p.it;
+  is = p.is;
+  number = p.number;
+  whole = p.whole;
+  asked = p.asked;
+  works = p.works;
+  unready = p.unready;
+  empty = p.empty;
+  done = p.done;
+  more = p.more;
+  partial = p.partial;
+  only = λ is. refl;
   way = ap (λ (w : List Message). w ++ message.Stop d ∷ []) p.way ∙ stopped_own d p.it.request.number p.own p.stop (no_stop p.stop p.only);
 })
 stops_place d link c out path (at_ready p) = at_ready (record {
-  own = p.own; stop = true; it = p.it; how = p.how; is = p.is; number = p.number; asked = p.asked; allowed = p.allowed;
-  idle = p.idle; ready = p.ready; empty = p.empty; store = p.store; only = λ is. refl;
+  own = p.own;
+  stop = true;
+  it = p.it;
+  how = p.how;
+  is = p.is;
+  number = p.number;
+  asked = p.asked;
+  allowed = p.allowed;
+  idle = p.idle;
+  ready = p.ready;
+  empty = p.empty;
+  store = p.store;
+  only = λ is. refl;
   way = ap (λ (w : List Message). w ++ message.Stop d ∷ []) p.way ∙ stopped_own d p.it.request.number p.own p.stop (no_stop p.stop p.only);
 })
 stops_place d link c out path (sent p) = sent (record {
-  own = p.own; stop = true; it = p.it; how = p.how; count = p.count; is = p.is; number = p.number; asked = p.asked; allowed = p.allowed;
-  idle = p.idle; unready = p.unready; sent = p.sent; store = p.store; only = λ is. refl;
+  own = p.own;
+  stop = true;
+  it = p.it;
+  how = p.how;
+  count = p.count;
+  is = p.is;
+  number = p.number;
+  asked = p.asked;
+  allowed = p.allowed;
+  idle = p.idle;
+  unready = p.unready;
+  sent = p.sent;
+  store = p.store;
+  only = λ is. refl;
   way = ap (λ (w : List Message). w ++ message.Stop d ∷ []) p.way ∙ stopped_own d p.it.request.number p.own p.stop (no_stop p.stop p.only);
 })
 

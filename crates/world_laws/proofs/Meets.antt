@@ -1,12 +1,10 @@
 -- All devices with their roads: what each move on devices leaves in order.
-use Rattle.std.proofs.Common.{◌≡◌, ℕ, ◌+◌, ◌-◌, ◌≤◌, length, Bool, true, false, List, [], ◌∷◌, Option, Some, None, refl, ap, sym, subst, ◌∙◌, ◌⊎◌, inl, inr, arith}
+use Rattle.std.proofs.Common.{◌≡◌, ℕ, ◌+◌, ◌-◌, ◌≤◌, length, Bool, true, false, List, [], Option, Some, None, refl, ap, sym, subst, ◌∙◌, ◌⊎◌, inl, inr, arith}
 use Rattle.std.specs.Prelude.{if◌then◌else◌, slice_set}
 use Rattle.tk_types.specs.declared.error_code.Er.{Er}
 use Rattle.kernel_model.specs.Words.Orders.{entry, without}
 use Rattle.kernel_lemmas.proofs.Tables.{entry_each, entry_other, entry_there}
-use Rattle.device_model.specs.declared.rows.Life.{Life}
 use Rattle.device_model.specs.declared.rows.Life.TheVariants as life
-use Rattle.device_model.specs.declared.messages.Request.{Request}
 use Rattle.device_model.specs.Units.Function.{IsWhole, Served}
 use Rattle.device_model.specs.Devices.Tables.{Devices, Given, Link, Row, accepted, accepted_in, asked, asked_given, asked_link, dropped, dropped_in, first_queued, handed, handed_first, handed_given, handed_link, handed_row, is_at_driver, is_queued, link_asked, link_at, link_handed, request_of, row_at}
 use Rattle.device_model.specs.Devices.Endings.{ended_at}
@@ -91,7 +89,6 @@ dropped_met over all dv id None met = met
 dropped_met over all dv id (Some row) met = dropped_by over all dv id (without id dv.queued) (without id dv.ended) (is_at_driver row.life) met
 
 -- ---- requests that go to drivers
-
 
 not_waiting : (row now : Row) → Some (record row { bytes = []; life = life.AtDriver }) ≡ Some now → is_queued now.life ≡ true → IsWholeRow now
 not_waiting row now same waits =

@@ -1,12 +1,11 @@
 -- A request whose ending is handed out is gone.
-use Rattle.std.proofs.Common.{◌≡◌, ℕ, Bool, true, false, List, Option, Some, None, refl, ap, sym, subst, ◌∙◌, ◌⊎◌, inl, inr}
+use Rattle.std.proofs.Common.{◌≡◌, ℕ, Bool, true, false, Option, Some, None, refl, sym, subst, ◌⊎◌, inl, inr}
 use Rattle.std.specs.Prelude.{if◌then◌else◌, slice_set}
 use Rattle.kernel_model.specs.Words.Orders.{entry, without}
 use Rattle.device_model.specs.declared.rows.Life.{Life}
 use Rattle.device_model.specs.declared.rows.Life.TheVariants as life
 use Rattle.device_model.specs.Devices.Tables.{Devices, Row, dropped, dropped_in, has_ended, is_at_driver, row_at}
 use Rattle.device_laws.specs.Requests.{AreApart, IsGone}
-use Rattle.kernel_lemmas.proofs.Tables.{entry_other, entry_there}
 use Rattle.world_laws.proofs.Requests.{slot_apart}
 
 not_away : (now : Life) → has_ended now ≡ true → is_at_driver now ≡ false

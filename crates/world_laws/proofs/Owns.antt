@@ -1,5 +1,5 @@
 -- What a call is told that stays for its own request, where that has ended as it was accepted.
-use Rattle.std.proofs.Common.{◌≡◌, ℕ, suc, zero, ◌+◌, ◌<◌, ◌⊎◌, inl, inr, Bool, true, false, List, [], ◌∷◌, Option, Some, None, ℤ, negsuc, refl, ap, sym, subst, ◌∙◌, arith}
+use Rattle.std.proofs.Common.{◌≡◌, ℕ, suc, ◌+◌, ◌⊎◌, inl, inr, Bool, true, false, List, [], ◌∷◌, Option, Some, None, ℤ, negsuc, refl, ap, sym, subst, ◌∙◌, arith}
 use Rattle.std.specs.Prelude.{◌==◌, not, if◌then◌else◌, drop, slice_set}
 use Rattle.tk_types.specs.declared.answer.Answer.{Answer}
 use Rattle.tk_types.specs.declared.answer.Outcome.{Outcome}
@@ -15,12 +15,11 @@ use Rattle.call_lemmas.proofs.Checked.{holds_at}
 use Rattle.device_model.specs.declared.rows.Life.TheVariants.{Ended}
 use Rattle.device_model.specs.declared.rows.Transfer.{Transfer}
 use Rattle.device_model.specs.Devices.Memory.{number_of, read_bytes}
-use Rattle.device_model.specs.Devices.Tables.{Devices, Row, accepted, accepted_in, dropped, free_request, row_at, with_buffer}
+use Rattle.device_model.specs.Devices.Tables.{Devices, Row, accepted, accepted_in, free_request, row_at, with_buffer}
 use Rattle.device_model.specs.Devices.Endings.{DevParts}
-use Rattle.device_model.specs.Devices.Requests.{accept, accept_event, accept_from, buffer_size, claimed, claimed_life, claimed_row, has_place, may_be_buffer, row_of, set_buffer, shown_buffer}
+use Rattle.device_model.specs.Devices.Requests.{accept, accept_event, accept_from, buffer_size, claimed_row, has_place, may_be_buffer, row_of, set_buffer}
 use Rattle.device_model.specs.Devices.Calls as calls
 use Rattle.device_model.specs.Devices.Calls.{DevDone, device_call}
-use Rattle.device_laws.specs.Claims.{IsClaim}
 use Rattle.world_laws.specs.Requests.{HandsOutOwn}
 
 -- ---- a free ID

@@ -1,11 +1,10 @@
 -- Where the request of a device is that is with its driver, and what is on the way to that driver then.
-use Rattle.std.proofs.Common.{◌≡◌, ℕ, ◌+◌, ◌*◌, ◌≤◌, ◌<◌, ◌⊎◌, inl, inr, Bool, true, false, List, [], ◌∷◌, ◌++◌, Option, Some, None, refl, ap, sym, subst, ◌∙◌}
+use Rattle.std.proofs.Common.{◌≡◌, ℕ, ◌+◌, ◌*◌, ◌≤◌, ◌<◌, ◌⊎◌, Bool, true, false, List, [], ◌∷◌, ◌++◌, Option, Some, None, ap, sym, subst, ◌∙◌}
 use Rattle.tk_types.specs.declared.line.How.{How}
 use Rattle.tk_types.specs.declared.script.Kind.{Kind}
 use Rattle.device_model.specs.declared.messages.Ending.{Ending}
 use Rattle.device_model.specs.declared.messages.Message.{Message}
 use Rattle.device_model.specs.declared.messages.Message.TheVariants as message
-use Rattle.device_model.specs.declared.messages.Request.{Request}
 use Rattle.device_model.specs.Units.Stores.{Store}
 use Rattle.device_model.specs.Units.Function.{IsWhole, block_size, begin, count_of}
 use Rattle.device_model.specs.Units.Blocks.{Partial, blocks}
@@ -165,25 +164,81 @@ same_partial c now same i = record { store = same.store i; content = same.conten
 pub same_place : (s : Side) (c now : Core) (out : List Ending) (path : List Message) → DoesSame c now →
     Place s c out path → Place s now out path
 same_place s c now out path same (nowhere p) = nowhere (record {
-  old = p.old; stop = p.stop; none = p.none; idle = same.given ∙ p.idle; unready = same.ready ∙ p.unready; empty = p.empty; store = same.store ∙ p.store; before = p.before; only = p.only; way = p.way;
+  old = p.old;
+  stop = p.stop;
+  none = p.none;
+  idle = same.given ∙ p.idle;
+  unready = same.ready ∙ p.unready;
+  empty = p.empty;
+  store = same.store ∙ p.store;
+  before = p.before;
+  only = p.only;
+  way = p.way;
 })
 same_place s c now out path same (on_way p) = on_way (record {
-  old = p.old; own = p.own; stop = p.stop; it = p.it; is = p.is; number = p.number; whole = p.whole; asked = p.asked;
-  idle = same.given ∙ p.idle; unready = same.ready ∙ p.unready; empty = p.empty; store = same.store ∙ p.store; before = p.before; only = p.only; way = p.way;
+  old = p.old;
+  own = p.own;
+  stop = p.stop;
+  it = p.it;
+  is = p.is;
+  number = p.number;
+  whole = p.whole;
+  asked = p.asked;
+  idle = same.given ∙ p.idle;
+  unready = same.ready ∙ p.unready;
+  empty = p.empty;
+  store = same.store ∙ p.store;
+  before = p.before;
+  only = p.only;
+  way = p.way;
 })
 same_place s c now out path same (in_hand p) = in_hand (record {
-  own = p.own; stop = p.stop; it = p.it; is = p.is; number = p.number; whole = p.whole; asked = p.asked;
-  works = same.given ∙ p.works; unready = same.ready ∙ p.unready; empty = p.empty;
+  own = p.own;
+  stop = p.stop;
+  it = p.it;
+  is = p.is;
+  number = p.number;
+  whole = p.whole;
+  asked = p.asked;
+  works = same.given ∙ p.works;
+  unready = same.ready ∙ p.unready;
+  empty = p.empty;
   done = subst (λ (k : ℕ). block_size * k ≤ count_of s.kind (begin s.store p.it.request) p.it.request) (sym same.blocks) p.done;
   more = subst (λ (k : ℕ). (block_size * k < count_of s.kind (begin s.store p.it.request) p.it.request) ⊎ (k ≡ 0)) (sym same.blocks) p.more;
   partial = same_partial c now same ∙ (p.partial ∙ ap (λ (k : ℕ). blocks s.kind s.store p.it.request k) (sym same.blocks));
-  only = p.only; way = p.way;
+  only = p.only;
+  way = p.way;
 })
 same_place s c now out path same (at_ready p) = at_ready (record {
-  own = p.own; stop = p.stop; it = p.it; how = p.how; is = p.is; number = p.number; asked = p.asked; allowed = p.allowed;
-  idle = same.given ∙ p.idle; ready = same.ready ∙ p.ready; empty = p.empty; store = same.store ∙ p.store; only = p.only; way = p.way;
+  own = p.own;
+  stop = p.stop;
+  it = p.it;
+  how = p.how;
+  is = p.is;
+  number = p.number;
+  asked = p.asked;
+  allowed = p.allowed;
+  idle = same.given ∙ p.idle;
+  ready = same.ready ∙ p.ready;
+  empty = p.empty;
+  store = same.store ∙ p.store;
+  only = p.only;
+  way = p.way;
 })
 same_place s c now out path same (sent p) = sent (record {
-  own = p.own; stop = p.stop; it = p.it; how = p.how; count = p.count; is = p.is; number = p.number; asked = p.asked; allowed = p.allowed;
-  idle = same.given ∙ p.idle; unready = same.ready ∙ p.unready; sent = p.sent; store = same.store ∙ p.store; only = p.only; way = p.way;
+  own = p.own;
+  stop = p.stop;
+  it = p.it;
+  how = p.how;
+  count = p.count;
+  is = p.is;
+  number = p.number;
+  asked = p.asked;
+  allowed = p.allowed;
+  idle = same.given ∙ p.idle;
+  unready = same.ready ∙ p.unready;
+  sent = p.sent;
+  store = same.store ∙ p.store;
+  only = p.only;
+  way = p.way;
 })

@@ -1,9 +1,8 @@
 -- Requests through the steps of the world: each step is moves on devices, an ending that comes out of an outbox is fit, and a request
 -- ends aborted only where that was asked.
-use Rattle.std.proofs.Common.{◌≡◌, ℕ, zero, suc, arith, ◌+◌, Bool, true, false, List, [], ◌∷◌, Option, Some, None, refl, ap, sym, subst, ◌∙◌, ◌⊎◌, inl, inr}
-use Rattle.std.specs.Prelude.{◌&&◌, fold, if◌then◌else◌, slice_set}
+use Rattle.std.proofs.Common.{◌≡◌, ℕ, zero, suc, arith, ◌+◌, Bool, true, false, List, [], ◌∷◌, Option, Some, None, refl, ap, sym, subst, ◌⊎◌, inl, inr}
+use Rattle.std.specs.Prelude.{◌&&◌, if◌then◌else◌, slice_set}
 use Rattle.std.specs.Option.{is_some, option_map}
-use Rattle.tk_types.specs.declared.error_code.Er.{Er}
 use Rattle.tk_types.specs.declared.line.How.{How}
 use Rattle.tk_types.specs.declared.line.How.TheVariants.{Cut, Done}
 use Rattle.tk_types.specs.declared.run.End.{End as RunEnd}
@@ -16,7 +15,7 @@ use Rattle.device_model.specs.declared.rows.Life.TheVariants as life
 use Rattle.device_model.specs.Units.Stores.{Store}
 use Rattle.device_model.specs.Units.Function.{may_cut}
 use Rattle.device_model.specs.Devices.Tables.{Devices, Given, Link, Row, accepted, accepted_in, asked, asked_given, asked_link, devices_start, dropped, dropped_in, first_queued, handed, handed_first, handed_given, handed_link, handed_row, is_at_driver, link_asked, link_at, row_at}
-use Rattle.device_model.specs.Devices.Endings.{DevParts, arrive, ended_at, is_allowed, is_fit, says, served_of}
+use Rattle.device_model.specs.Devices.Endings.{DevParts, arrive, is_allowed, is_fit, served_of}
 use Rattle.device_model.specs.Devices.Handing.{emptied}
 use Rattle.device_model.specs.Devices.MoveProofs.{IsMoveProof, IsNew, is_abort, is_aborted}
 use Rattle.device_lemmas.proofs.Walk.{Kept, arrival_keeps}
@@ -25,18 +24,16 @@ use Rattle.device_laws.specs.Requests.{AreTied}
 use Rattle.device_laws.proofs.Aborts.{unit_plain}
 use Rattle.device_laws.proofs.Follows.{slot_of}
 use Rattle.device_laws.proofs.Leading.{arriving, leading, no_moves, one_more}
-use Rattle.device_laws.proofs.Ties.{stay_tied, tied_at_first}
 use Rattle.machine_model.specs.States.Objects.{dev_parts, with_devices}
-use Rattle.machine_model.specs.States.State.{State, parts_of, state_start, with_parts}
-use Rattle.machine_model.specs.Events.Follow.{Event}
+use Rattle.machine_model.specs.States.State.{parts_of, state_start, with_parts}
 use Rattle.machine_model.specs.Events.Arrivals.{after_arrival as event_of, arrived}
 use Rattle.machine_model.specs.Runs.Step.{Ends, Needs, Pace, Went, step}
 use Rattle.machine_model.specs.Runs.Trace.{start}
 use Rattle.world_model.specs.Roads.{Road}
-use Rattle.world_model.specs.Worlds.{Step, Kernel, Hand, Abort, Take, Block, End, Arrive, World, after_arrival, after_arrive, after_kernel, after_pace, all_stepped, arrive_first, arrive_from, devices_of, on_road, road_at, stepped, unless_over, with_road, world_start}
+use Rattle.world_model.specs.Worlds.{Step, Kernel, Hand, Abort, Take, Block, End, Arrive, World, after_arrival, after_arrive, after_kernel, after_pace, all_stepped, arrive_first, arrive_from, devices_of, road_at, stepped, unless_over, with_road, world_start}
 use Rattle.world_laws.specs.Requests.{IsAbortAsked, WasAsked}
 use Rattle.world_laws.proofs.LinkMoves.{Comes}
-use Rattle.world_laws.proofs.DeviceWalk.{Of, OfPace, dispatched_keeps, followed_keeps, step_keeps}
+use Rattle.world_laws.proofs.DeviceWalk.{OfPace, dispatched_keeps, followed_keeps, step_keeps}
 use Rattle.world_laws.proofs.Meets.{AreMet, Meets}
 use Rattle.world_laws.proofs.Arrivals.{HasArrived, closed_keeps, fit_arrives, has_arrived, made_fit}
 use Rattle.world_laws.proofs.Worlds.{IsMet, come, of_device}
@@ -267,10 +264,21 @@ arrived_rows p q e a =
     ended = record a.row { life = life.Ended (served_of a.link.kind a.link.store a.given.request e.how).size (served_of a.link.kind a.link.store a.given.request e.how).error }
 
     at_it : WasSo p.table a.given.request.id ended
-    at_it aborted = inr (e.device, record {
-      link = a.link; given = a.given; row = a.row; linked = a.linked; has = a.has; names = refl; there = a.there; same = refl; away = a.away;
-      asked = aborted_asked a.link.kind a.link.store a.given e.how (first_of (is_allowed a.link.kind a.link.store a.given e.how) _ a.fit) aborted;
-    })
+    at_it aborted = inr (
+      e.device,
+      record {
+        link = a.link;
+        given = a.given;
+        row = a.row;
+        linked = a.linked;
+        has = a.has;
+        names = refl;
+        there = a.there;
+        same = refl;
+        away = a.away;
+        asked = aborted_asked a.link.kind a.link.store a.given e.how (first_of (is_allowed a.link.kind a.link.store a.given e.how) _ a.fit) aborted;
+      },
+    )
 
 kept_rows : (p : DevParts) (e : Ending) (parts : Option DevParts) → arrive p e ≡ parts → Kept (EachRow (WasSo p.table)) parts
 kept_rows p e None is = tt

@@ -5,7 +5,7 @@ use Rattle.std.proofs.lemmas.List.{append_assoc}
 use Rattle.device_model.specs.declared.messages.Ending.{Ending}
 use Rattle.device_model.specs.declared.messages.Message.{Message}
 use Rattle.device_model.specs.Devices.Tables.{Link}
-use Rattle.driver_model.specs.Cores.{after_block, after_ending, after_message, can_take, ending_out}
+use Rattle.driver_model.specs.Cores.{after_ending, after_message, can_take, ending_out}
 use Rattle.world_model.specs.Roads.{Road, after_abort, after_end, after_hand, after_take, after_turn, abort_first, hand_first, inbox_size, is_abort, outbox_size, pushed, put_in, put_out, take_first}
 use Rattle.world_laws.proofs.Places.{Side, Stands}
 use Rattle.world_laws.proofs.Takes.{takes}

@@ -1,5 +1,5 @@
 -- A road that is in order, in the words of the law.
-use Rattle.std.proofs.Common.{◌≡◌, ℕ, ◌+◌, ◌≤◌, ◌<◌, ◌⊎◌, inl, inr, Bool, true, false, List, [], ◌∷◌, ◌++◌, length, Option, Some, None, refl, ap, sym, subst, ◌∙◌, arith}
+use Rattle.std.proofs.Common.{◌≡◌, ℕ, ◌+◌, ◌≤◌, ◌<◌, inl, inr, Bool, true, false, List, [], ◌∷◌, ◌++◌, length, Option, Some, None, refl, ap, sym, subst, ◌∙◌, arith}
 use Rattle.std.proofs.lemmas.List.{append-nil}
 use Rattle.device_model.specs.declared.messages.Ending.{Ending}
 use Rattle.device_model.specs.declared.messages.Message.{Message}
@@ -8,12 +8,11 @@ use Rattle.device_model.specs.declared.messages.Request.{Request}
 use Rattle.device_model.specs.Units.Function.{IsWhole}
 use Rattle.device_model.specs.Units.Blocks.{Partial, blocks}
 use Rattle.device_model.specs.Devices.Tables.{Given, Link}
-use Rattle.device_model.specs.Devices.Endings.{ending_of, is_fit, served_of}
 use Rattle.driver_model.specs.Cores.{Core}
 use Rattle.world_model.specs.Roads.{Road}
 use Rattle.world_laws.specs.Sound.{AbortsFit, AreSound, Each, HasEnded, IsGiven, IsMade, IsOwn, IsRight, IsSound, aborts_in, one_if, serves_in, stops_in, untaken}
-use Rattle.world_laws.proofs.Places.{AtReady, InHand, IsBefore, IsSent, Nowhere, OnWay, Place, Stands, at_ready, core_partial, in_hand, nowhere, old_aborts, on_way, own_aborts, sent, stops}
-use Rattle.world_laws.proofs.Roads.{Keeps, side_of, way_of}
+use Rattle.world_laws.proofs.Places.{AtReady, InHand, IsBefore, IsSent, Nowhere, OnWay, Place, Stands, at_ready, in_hand, nowhere, old_aborts, on_way, own_aborts, sent, stops}
+use Rattle.world_laws.proofs.Roads.{side_of, way_of}
 use Rattle.world_laws.proofs.Meets.{Meets}
 use Rattle.world_laws.proofs.Arrivals.{made_fit}
 
@@ -93,9 +92,9 @@ from_nowhere : (over : Bool) (d : ℕ) (link : Link) (c : Core) (out : List Endi
 from_nowhere over d link c out path stands p =
     let counts : Counts over 0 1 path = subst (λ (w : List Message). Counts over 0 1 w) (sym p.way) (nowhere_counts over d p.old p.stop p.only) in
     let fits : Fits over d link false path = subst (λ (w : List Message). Fits over d link false w) (sym p.way)
-        (old_fits over d link (link.number + 1) p.old (stops d p.stop) p.before
-        (λ number some before. record { some = some; last = omega (arith, before); before = λ given has. none_fits (number < given.request.number) link.given given p.none has })
-        (stop_fits over d link false p.stop p.only)) in
+    (old_fits over d link (link.number + 1) p.old (stops d p.stop) p.before
+    (λ number some before. record { some = some; last = omega (arith, before); before = λ given has. none_fits (number < given.request.number) link.given given p.none has })
+    (stop_fits over d link false p.stop p.only)) in
     let asked : one_if link.given ≡ 0 = ap (λ (o : Option Given). one_if o) p.none in
     let aborts : aborts_in path ≤ 1 = counts.aborts in
     record {
@@ -122,14 +121,15 @@ from_on_way : (over : Bool) (d : ℕ) (link : Link) (c : Core) (out : List Endin
 from_on_way over d link c out path stands p =
     let counts : Counts over 1 2 path = subst (λ (w : List Message). Counts over 1 2 w) (sym p.way) (on_way_counts over d p.it.request p.old p.own p.stop p.only) in
     let fits : Fits over d link false path = subst (λ (w : List Message). Fits over d link false w) (sym p.way)
-        (old_fits over d link p.it.request.number p.old _ p.before
-        (λ number some before. record {
-          some = some; last = let same = p.number in omega (arith, before, same);
-          before = λ given has. some_fits (λ (g : Given). number < g.request.number) link.given p.it given p.is has before;
-        })
-        (serve_fits over d link false p.it.request _ (record { given = p.it; is = p.is; same = refl }) p.whole
-        (own_fits over d link true p.it.request.number p.own (stops d p.stop) (λ own. record { given = p.it; is = p.is; names = refl; asked = p.asked ∙ own })
-        (stop_fits over d link true p.stop p.only)))) in
+    (old_fits over d link p.it.request.number p.old _ p.before
+    (λ number some before. record {
+      some = some;
+      last = let same = p.number in omega (arith, before, same);
+      before = λ given has. some_fits (λ (g : Given). number < g.request.number) link.given p.it given p.is has before;
+    })
+    (serve_fits over d link false p.it.request _ (record { given = p.it; is = p.is; same = refl }) p.whole
+    (own_fits over d link true p.it.request.number p.own (stops d p.stop) (λ own. record { given = p.it; is = p.is; names = refl; asked = p.asked ∙ own })
+    (stop_fits over d link true p.stop p.only)))) in
     let given : one_if link.given ≡ 1 = ap (λ (o : Option Given). one_if o) p.is in
     let aborts : aborts_in path ≤ 2 = counts.aborts in
     record {

@@ -1,5 +1,5 @@
 -- A driver takes the first message on its way.
-use Rattle.std.proofs.Common.{◌≡◌, ℕ, ◌+◌, ◌*◌, ◌≤◌, Bool, true, false, List, [], ◌∷◌, ◌++◌, Option, Some, None, refl, ap, sym, subst, ◌∙◌, ◌⊎◌, inl, inr, arith}
+use Rattle.std.proofs.Common.{◌≡◌, ℕ, ◌+◌, ◌*◌, Bool, true, false, List, [], ◌∷◌, ◌++◌, Option, Some, None, refl, ap, sym, subst, ◌∙◌, ◌⊎◌, inl, inr, arith}
 use Rattle.std.specs.Prelude.{◌==◌, ◌&&◌, if◌then◌else◌}
 use Rattle.std.proofs.lemmas.Bool.Decides.{nat_tests}
 use Rattle.tk_types.specs.declared.error_code.Er.TheVariants as er
@@ -9,13 +9,12 @@ use Rattle.device_model.specs.declared.messages.Message.{Message}
 use Rattle.device_model.specs.declared.messages.Message.TheVariants as message
 use Rattle.device_model.specs.declared.messages.Request.{Request}
 use Rattle.device_model.specs.Units.Stores.{Store}
-use Rattle.device_model.specs.Units.Function.{Served, begin, block_size, count_of, cut, may_cut}
+use Rattle.device_model.specs.Units.Function.{Served, begin, block_size, cut, may_cut}
 use Rattle.device_model.specs.Units.Blocks.{Partial, blocks}
-use Rattle.device_model.specs.Devices.Tables.{Given}
-use Rattle.device_model.specs.Devices.Endings.{ending_of, is_allowed, served_of}
-use Rattle.driver_model.specs.Cores.{Core, aborted, after_message, begun, cut_off, cut_served}
+use Rattle.device_model.specs.Devices.Endings.{ending_of}
+use Rattle.driver_model.specs.Cores.{Core, aborted, after_message, cut_off, cut_served}
 use Rattle.driver_laws.proofs.Lasts.{cut_is_unit, may_be_cut}
-use Rattle.world_laws.proofs.Places.{AtReady, DoesSame, InHand, IsBefore, IsSent, Nowhere, OnWay, Place, Side, Stands, at_ready, core_partial, in_hand, nowhere, old_aborts, on_way, own_aborts, same_place, sent, stops}
+use Rattle.world_laws.proofs.Places.{AtReady, InHand, IsBefore, IsSent, Nowhere, OnWay, Place, Side, Stands, at_ready, in_hand, nowhere, old_aborts, on_way, own_aborts, same_place, sent, stops}
 
 -- what a driver that takes the first message comes to
 abbrev pub Takes : Side → Core → List Ending → List Message → Type 0
@@ -40,7 +39,8 @@ goes_by s c out d number rest stands none =
     (record {
       device = stands.device;
       of_kind = stands.of_kind;
-      stopped = stands.stopped; counted = stands.counted;
+      stopped = stands.stopped;
+      counted = stands.counted;
       place = same_place s c (record c { taken = c.taken + 1 }) out rest
           (record { device = refl; kind = refl; store = refl; given = refl; blocks = refl; content = refl; ready = refl }) stands.place;
     })
@@ -51,7 +51,8 @@ unfolding after_message
 stops_by s c out is stands = record {
   device = stands.device;
   of_kind = stands.of_kind;
-  stopped = λ stopped. is; counted = stands.counted;
+  stopped = λ stopped. is;
+  counted = stands.counted;
   place = same_place s c (record c { stopped = true; taken = c.taken + 1 }) out []
       (record { device = refl; kind = refl; store = refl; given = refl; blocks = refl; content = refl; ready = refl }) stands.place;
 }
@@ -79,10 +80,19 @@ from_nowhere s c out path stands p =
     (nowhere_takes s c out p.old p.stop p.idle p.only (λ left more was had. record {
       device = stands.device;
       of_kind = stands.of_kind;
-      stopped = stands.stopped; counted = stands.counted;
+      stopped = stands.stopped;
+      counted = stands.counted;
       place = nowhere (record {
-        old = left; stop = more; none = p.none; idle = p.idle; unready = p.unready; empty = p.empty; store = p.store;
-        before = before_left (s.last + 1) p.old left was p.before; only = only_left (s.over ≡ true) p.stop more had p.only; way = refl;
+        old = left;
+        stop = more;
+        none = p.none;
+        idle = p.idle;
+        unready = p.unready;
+        empty = p.empty;
+        store = p.store;
+        before = before_left (s.last + 1) p.old left was p.before;
+        only = only_left (s.over ≡ true) p.stop more had p.only;
+        way = refl;
       });
     }))
 
@@ -93,10 +103,21 @@ serve_place : (s : Side) (c : Core) (out : List Ending) (path : List Message) (p
     InHand s (after_message c (message.Serve s.device p.it.request)) out (own_aborts s.device p.it.request.number p.own ++ stops s.device p.stop)
 unfolding after_message blocks
 serve_place s c out path p = record {
-  own = p.own; stop = p.stop; it = p.it; is = p.is; number = p.number; whole = p.whole; asked = p.asked; works = refl;
-  unready = p.unready; empty = p.empty; done = omega arith; more = inr refl;
+  own = p.own;
+  stop = p.stop;
+  it = p.it;
+  is = p.is;
+  number = p.number;
+  whole = p.whole;
+  asked = p.asked;
+  works = refl;
+  unready = p.unready;
+  empty = p.empty;
+  done = omega arith;
+  more = inr refl;
   partial = ap (λ (store : Store). let r : Partial = record { store = begin store p.it.request; content = [] } in r) p.store;
-  only = p.only; way = refl;
+  only = p.only;
+  way = refl;
 }
 
 serve_takes : (s : Side) (c : Core) (out : List Ending) (path : List Message) (p : OnWay s c out path) → Stands s c out path →
@@ -111,10 +132,24 @@ on_way_takes s c out path p stands (Some number) =
     goes_by s c out s.device number _ (record {
       device = stands.device;
       of_kind = stands.of_kind;
-      stopped = stands.stopped; counted = stands.counted;
+      stopped = stands.stopped;
+      counted = stands.counted;
       place = on_way (record {
-        old = None; own = p.own; stop = p.stop; it = p.it; is = p.is; number = p.number; whole = p.whole; asked = p.asked;
-        idle = p.idle; unready = p.unready; empty = p.empty; store = p.store; before = tt; only = p.only; way = refl;
+        old = None;
+        own = p.own;
+        stop = p.stop;
+        it = p.it;
+        is = p.is;
+        number = p.number;
+        whole = p.whole;
+        asked = p.asked;
+        idle = p.idle;
+        unready = p.unready;
+        empty = p.empty;
+        store = p.store;
+        before = tt;
+        only = p.only;
+        way = refl;
       });
     }) p.idle
 
@@ -147,13 +182,22 @@ cut_takes s c out path p stands own =
 
     ready_now : AtReady s (record (cut_off c request) { taken = c.taken + 1 }) out (stops s.device p.stop)
     ready_now = record {
-      own = false; stop = p.stop; it = p.it; how = Cut (block_size * c.blocks); is = p.is; number = p.number; asked = λ no. absurd (cc no);
+      own = false;
+      stop = p.stop;
+      it = p.it;
+      how = Cut (block_size * c.blocks);
+      is = p.is;
+      number = p.number;
+      asked = λ no. absurd (cc no);
       allowed = ap (λ (b : Bool). b && may_cut s.kind s.store request (block_size * c.blocks)) (p.asked ∙ own)
           ∙ may_be_cut s.kind s.store request c.blocks p.more;
       idle = refl;
       ready = ap (λ (d : ℕ). Some (ending_of d request (Cut (block_size * c.blocks)) (cut_served c))) stands.device
           ∙ ap (λ (it : Served). Some (ending_of s.device request (Cut (block_size * c.blocks)) it)) served;
-      empty = p.empty; store = ap (λ (it : Served). it.store) served; only = p.only; way = refl;
+      empty = p.empty;
+      store = ap (λ (it : Served). it.store) served;
+      only = p.only;
+      way = refl;
     }
 
 hand_takes : (s : Side) (c : Core) (out : List Ending) (path : List Message) (p : InHand s c out path) → Stands s c out path → (own stop : Bool) → p.own ≡ own → p.stop ≡ stop →
@@ -164,10 +208,24 @@ hand_takes s c out path p stands false false own had = tt
 hand_takes s c out path p stands false true own had = stops_by s c out (p.only had) (record {
   device = stands.device;
   of_kind = stands.of_kind;
-  stopped = stands.stopped; counted = stands.counted;
+  stopped = stands.stopped;
+  counted = stands.counted;
   place = in_hand (record {
-    own = false; stop = false; it = p.it; is = p.is; number = p.number; whole = p.whole; asked = p.asked ∙ own; works = p.works;
-    unready = p.unready; empty = p.empty; done = p.done; more = p.more; partial = p.partial; only = λ no. absurd (cc no); way = refl;
+    own = false;
+    stop = false;
+    it = p.it;
+    is = p.is;
+    number = p.number;
+    whole = p.whole;
+    asked = p.asked ∙ own;
+    works = p.works;
+    unready = p.unready;
+    empty = p.empty;
+    done = p.done;
+    more = p.more;
+    partial = p.partial;
+    only = λ no. absurd (cc no);
+    way = refl;
   });
 })
 
@@ -186,10 +244,23 @@ from_ready s c out path stands p =
     (ended_takes s c out p.it.request.number p.own p.stop p.idle p.only (λ more had. record {
       device = stands.device;
       of_kind = stands.of_kind;
-      stopped = stands.stopped; counted = stands.counted;
+      stopped = stands.stopped;
+      counted = stands.counted;
       place = at_ready (record {
-        own = false; stop = more; it = p.it; how = p.how; is = p.is; number = p.number; asked = λ no. absurd (cc no); allowed = p.allowed;
-        idle = p.idle; ready = p.ready; empty = p.empty; store = p.store; only = only_left (s.over ≡ true) p.stop more had p.only; way = refl;
+        own = false;
+        stop = more;
+        it = p.it;
+        how = p.how;
+        is = p.is;
+        number = p.number;
+        asked = λ no. absurd (cc no);
+        allowed = p.allowed;
+        idle = p.idle;
+        ready = p.ready;
+        empty = p.empty;
+        store = p.store;
+        only = only_left (s.over ≡ true) p.stop more had p.only;
+        way = refl;
       });
     }))
 
@@ -199,10 +270,24 @@ from_sent s c out path stands p =
     (ended_takes s c out p.it.request.number p.own p.stop p.idle p.only (λ more had. record {
       device = stands.device;
       of_kind = stands.of_kind;
-      stopped = stands.stopped; counted = stands.counted;
+      stopped = stands.stopped;
+      counted = stands.counted;
       place = sent (record {
-        own = false; stop = more; it = p.it; how = p.how; count = p.count; is = p.is; number = p.number; asked = λ no. absurd (cc no); allowed = p.allowed;
-        idle = p.idle; unready = p.unready; sent = p.sent; store = p.store; only = only_left (s.over ≡ true) p.stop more had p.only; way = refl;
+        own = false;
+        stop = more;
+        it = p.it;
+        how = p.how;
+        count = p.count;
+        is = p.is;
+        number = p.number;
+        asked = λ no. absurd (cc no);
+        allowed = p.allowed;
+        idle = p.idle;
+        unready = p.unready;
+        sent = p.sent;
+        store = p.store;
+        only = only_left (s.over ≡ true) p.stop more had p.only;
+        way = refl;
       });
     }))
 

@@ -1,6 +1,6 @@
 -- A driver makes a turn, and gives out an ending.
-use Rattle.std.proofs.Common.{◌≡◌, ℕ, suc, ◌+◌, ◌*◌, ◌≤◌, ◌<◌, Bool, true, false, List, [], ◌∷◌, ◌++◌, Option, Some, None, refl, ap, sym, subst, ◌∙◌, ◌⊎◌, inl, inr, arith}
-use Rattle.std.specs.Prelude.{nat_le, nat_lt, if◌then◌else◌, length}
+use Rattle.std.proofs.Common.{◌≡◌, ℕ, suc, ◌+◌, ◌*◌, ◌≤◌, ◌<◌, Bool, true, false, List, [], ◌∷◌, ◌++◌, Option, Some, None, refl, ap, sym, subst, ◌∙◌, inl, arith}
+use Rattle.std.specs.Prelude.{nat_le, if◌then◌else◌}
 use Rattle.std.specs.Option.{option_map}
 use Rattle.std.proofs.lemmas.Bool.Decides.{nat_tests}
 use Rattle.tk_types.specs.declared.line.How.TheVariants.{Done}
@@ -8,14 +8,13 @@ use Rattle.tk_types.specs.declared.script.Kind.{Kind}
 use Rattle.device_model.specs.declared.messages.Ending.{Ending}
 use Rattle.device_model.specs.declared.messages.Message.{Message}
 use Rattle.device_model.specs.declared.messages.Request.{Request}
-use Rattle.device_model.specs.Units.Stores.{Store}
 use Rattle.device_model.specs.Units.Function.{Served, begin, block_size, count_of, unit}
 use Rattle.device_model.specs.Units.Blocks.{Partial, block, blocks, is_last}
 use Rattle.device_model.specs.Devices.Endings.{ending_of, served_of}
 use Rattle.driver_model.specs.Ends.{error_at, size_at}
 use Rattle.driver_model.specs.Cores.{Core, after_block, after_ending, done, done_served, ending_out, is_empty_turn, next_block, turned, went_on, worked}
-use Rattle.driver_laws.proofs.Lasts.{last_is, last_is_unit, served_at}
-use Rattle.world_laws.proofs.Places.{AtReady, InHand, IsSent, Nowhere, OnWay, Place, Side, Stands, at_ready, core_partial, in_hand, nowhere, on_way, same_place, sent}
+use Rattle.driver_laws.proofs.Lasts.{last_is, last_is_unit}
+use Rattle.world_laws.proofs.Places.{AtReady, InHand, Place, Side, Stands, at_ready, core_partial, in_hand, nowhere, on_way, same_place, sent}
 
 either_core : (P : Core → Type 0) (test : Bool) (one other : Core) → P one → P other → P (if test then one else other)
 either_core P true one other first second = first
@@ -32,7 +31,8 @@ empty_turn : (s : Side) (c : Core) (out : List Ending) (path : List Message) →
 empty_turn s c out path stands = record {
   device = stands.device;
   of_kind = stands.of_kind;
-  stopped = stands.stopped; counted = stands.counted;
+  stopped = stands.stopped;
+  counted = stands.counted;
   place = same_place s c (record c { turns = c.turns + 1 }) out path
       (record { device = refl; kind = refl; store = refl; given = refl; blocks = refl; content = refl; ready = refl }) stands.place;
 }
@@ -58,10 +58,21 @@ went s c out path p of_kind is =
     let not_last = last_by s c out path p of_kind false is in
     let less : 64 * (c.blocks + 1) < count_of s.kind (begin s.store p.it.request) p.it.request = grind (arith, nat_tests, not_last) in
     record {
-      own = p.own; stop = p.stop; it = p.it; is = p.is; number = p.number; whole = p.whole; asked = p.asked; works = p.works;
-      unready = p.unready; empty = p.empty; done = omega (arith, less); more = inl less;
+      own = p.own;
+      stop = p.stop;
+      it = p.it;
+      is = p.is;
+      number = p.number;
+      whole = p.whole;
+      asked = p.asked;
+      works = p.works;
+      unready = p.unready;
+      empty = p.empty;
+      done = omega (arith, less);
+      more = inl less;
       partial = next_is s c out path p of_kind ∙ ap (λ (k : ℕ). blocks s.kind s.store p.it.request k) (omega arith);
-      only = p.only; way = p.way;
+      only = p.only;
+      way = p.way;
     }
 
 abbrev done_by : Core → Request → Kind → Partial → Partial → Served
@@ -76,10 +87,21 @@ done_by c request kind before last = record {
 finished : (s : Side) (c : Core) (out : List Ending) (path : List Message) (p : InHand s c out path) → c.device ≡ s.device → c.kind ≡ s.kind → is_last c.kind c.store p.it.request c.blocks ≡ true →
     AtReady s (done c p.it.request (next_block c p.it.request)) out path
 finished s c out path p device of_kind is = record {
-  own = p.own; stop = p.stop; it = p.it; how = Done; is = p.is; number = p.number; asked = λ own. p.asked ∙ own; allowed = refl; idle = refl;
+  own = p.own;
+  stop = p.stop;
+  it = p.it;
+  how = Done;
+  is = p.is;
+  number = p.number;
+  asked = λ own. p.asked ∙ own;
+  allowed = refl;
+  idle = refl;
   ready = ap (λ (d : ℕ). Some (ending_of d p.it.request Done (done_served c p.it.request (next_block c p.it.request)))) device
       ∙ ap (λ (it : Served). Some (ending_of s.device p.it.request Done it)) served;
-  empty = p.empty; store = ap (λ (it : Served). it.store) served; only = p.only; way = p.way;
+  empty = p.empty;
+  store = ap (λ (it : Served). it.store) served;
+  only = p.only;
+  way = p.way;
 }
   where
     last : count_of s.kind (begin s.store p.it.request) p.it.request ≤ block_size * c.blocks + block_size
@@ -150,10 +172,24 @@ ready_ends s c out path e p stands is =
     (record {
       device = stands.device;
       of_kind = stands.of_kind;
-      stopped = stands.stopped; counted = stands.counted;
+      stopped = stands.stopped;
+      counted = stands.counted;
       place = sent (record {
-        own = p.own; stop = p.stop; it = p.it; how = p.how; count = c.taken; is = p.is; number = p.number; asked = p.asked; allowed = p.allowed;
-        idle = p.idle; unready = refl; sent = appended out _ e p.empty facts.1; store = p.store; only = p.only; way = p.way;
+        own = p.own;
+        stop = p.stop;
+        it = p.it;
+        how = p.how;
+        count = c.taken;
+        is = p.is;
+        number = p.number;
+        asked = p.asked;
+        allowed = p.allowed;
+        idle = p.idle;
+        unready = refl;
+        sent = appended out _ e p.empty facts.1;
+        store = p.store;
+        only = p.only;
+        way = p.way;
       });
     })
   where

@@ -1,6 +1,6 @@
 -- Every step of the world leaves all roads in order.
-use Rattle.std.proofs.Common.{◌≡◌, ℕ, zero, suc, ◌+◌, Bool, true, false, List, [], ◌∷◌, ◌++◌, Option, Some, None, refl, ap, sym, subst, ◌∙◌, arith}
-use Rattle.std.specs.Prelude.{fold, map, replicate, slice_set}
+use Rattle.std.proofs.Common.{◌≡◌, ℕ, zero, suc, ◌+◌, Bool, true, false, List, [], ◌∷◌, Option, Some, None, refl, ap, sym, subst, ◌∙◌, arith}
+use Rattle.std.specs.Prelude.{map, replicate, slice_set}
 use Rattle.std.specs.Option.{is_some, option_map}
 use Rattle.tk_types.specs.declared.line.How.{How}
 use Rattle.tk_types.specs.declared.run.End.{End as RunEnd}
@@ -12,23 +12,22 @@ use Rattle.kernel_model.specs.Words.Orders.{entry}
 use Rattle.kernel_lemmas.proofs.Tables.{entry_each, entry_there}
 use Rattle.device_model.specs.declared.messages.Ending.{Ending}
 use Rattle.device_model.specs.declared.messages.Message.{Message}
-use Rattle.device_model.specs.Devices.Tables.{Devices, Given, Link, Row, devices_start, link_at, link_start, row_at}
+use Rattle.device_model.specs.Devices.Tables.{Devices, Given, Link, Row, devices_start, link_at, link_start}
 use Rattle.device_model.specs.Devices.Endings.{DevParts, arrive, ended_at, served_of}
 use Rattle.device_model.specs.Devices.Handing.{emptied, link_emptied}
 use Rattle.device_lemmas.proofs.Emptied.{emptied_at}
 use Rattle.driver_model.specs.Cores.{core_start}
 use Rattle.machine_model.specs.States.Objects.{dev_parts, with_devices}
-use Rattle.machine_model.specs.States.State.{State, parts_of, state_start, taken, with_parts}
-use Rattle.machine_model.specs.Events.Follow.{Event, followed}
+use Rattle.machine_model.specs.States.State.{State, parts_of, state_start, with_parts}
 use Rattle.machine_model.specs.Events.Arrivals.{after_arrival as event_of, arrived}
 use Rattle.machine_model.specs.Runs.Step.{Ends, Needs, Pace, Went, step}
 use Rattle.machine_model.specs.Runs.Trace.{start}
-use Rattle.world_model.specs.Roads.{Road, after_abort, after_end, after_hand, after_take, after_turn, given_to, joined, joined_to, road_start, roads_from, stop_to, stops_joined}
-use Rattle.world_model.specs.Worlds.{Step, Kernel, Hand, Abort, Take, Block, End, Arrive, World, after_arrival, after_arrive, after_kernel, after_pace, all_stepped, arrive_first, arrive_from, came_to, devices_of, on_road, over_with, road_at, stepped, unless_over, with_road, world_start}
+use Rattle.world_model.specs.Roads.{Road, after_abort, after_end, after_hand, after_take, after_turn, joined, joined_to, road_start, roads_from, stop_to, stops_joined}
+use Rattle.world_model.specs.Worlds.{Step, Kernel, Hand, Abort, Take, Block, End, Arrive, World, after_arrival, after_arrive, after_kernel, after_pace, all_stepped, arrive_first, arrive_from, came_to, devices_of, over_with, road_at, stepped, unless_over, with_road, world_start}
 use Rattle.world_laws.proofs.Places.{nowhere}
 use Rattle.world_laws.proofs.Roads.{Keeps, abort_keeps, end_keeps, hand_keeps, take_keeps, turn_keeps}
 use Rattle.world_laws.proofs.LinkMoves.{Comes, comes, stops_keep, taken_keeps}
-use Rattle.world_laws.proofs.DeviceWalk.{Of, OfPace, dispatched_keeps, followed_keeps, step_keeps}
+use Rattle.world_laws.proofs.DeviceWalk.{OfPace, dispatched_keeps, followed_keeps, step_keeps}
 use Rattle.world_laws.proofs.Meets.{AreMet, Meets, ended_met, met_moves}
 use Rattle.world_laws.proofs.Arrivals.{HasArrived, closed_keeps, has_arrived}
 

@@ -1,5 +1,5 @@
 -- What becomes of requests from one world to the next.
-use Rattle.std.specs.Prelude.{◌≡◌, ℕ, ◌⊎◌, Bool, true, false, Option, Some, None}
+use Rattle.std.specs.Prelude.{◌≡◌, ℕ, ◌⊎◌, true, Some}
 use Rattle.tk_types.specs.declared.answer.Answer.{Answer}
 use Rattle.device_model.specs.declared.rows.Transfer.{Transfer}
 use Rattle.device_model.specs.Devices.Endings.{DevParts}

@@ -1,8 +1,6 @@
-use Rattle.std.proofs.Common.{refl}
-use Rattle.device_model.specs.Devices.Tables.{devices_start}
-use Rattle.device_laws.specs.Requests.{AreApart, IsGone, StaysSo}
+use Rattle.device_laws.specs.Requests.{IsGone}
 use Rattle.device_laws.proofs.Claims.{endings_serve, wait_hands_out}
-use Rattle.device_laws.proofs.Lives.{apart_at_first, stay_apart, stays_gone}
+use Rattle.device_laws.proofs.Lives.{stays_gone}
 use Rattle.world_laws.proofs.Once.{dropped_gone}
 use Rattle.world_laws.proofs.Owns.{read_hands_out, write_hands_out}
 use Rattle.world_laws.proofs.Everywhere.{always_apart, always_fit, always_sound, ended_stays}
