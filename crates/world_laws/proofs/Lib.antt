@@ -12,3 +12,4 @@ pub mod Requests
 pub mod Once
 pub mod Everywhere
 pub mod Owns
+pub mod There

@@ -42,7 +42,7 @@ pub record IsMet (w : World) : Type 0 where
 
 -- ---- messages that are taken
 
-joined_at : (links : List (Option Link)) (roads : List (Option Road)) (d : ℕ) → entry (joined links roads) d ≡ joined_to (entry links d) (entry roads d)
+pub joined_at : (links : List (Option Link)) (roads : List (Option Road)) (d : ℕ) → entry (joined links roads) d ≡ joined_to (entry links d) (entry roads d)
 unfolding joined
 joined_at [] roads d = none_to (entry roads d)
   where
@@ -88,7 +88,7 @@ taken_empty dv d link linked = ap out_or (sym linked) ∙ (ap out_or (emptied_at
 
 -- ---- the run is over
 
-stops_at : (from : ℕ) (roads : List (Option Road)) (d : ℕ) → entry (stops_joined from roads) d ≡ stop_to (from + d) (entry roads d)
+pub stops_at : (from : ℕ) (roads : List (Option Road)) (d : ℕ) → entry (stops_joined from roads) d ≡ stop_to (from + d) (entry roads d)
 unfolding stops_joined
 stops_at from [] d = refl
 stops_at from (road ∷ roads) zero = ap (λ (n : ℕ). stop_to n road) (omega arith)

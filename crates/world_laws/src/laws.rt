@@ -7,7 +7,10 @@ ghost use Rattle.tk_types.specs.declared.answer.Answer.{Answer};
 ghost use Rattle.tk_types.specs.declared.answer.Outcome.TheVariants.{Returned};
 ghost use Rattle.tk_types.specs.declared.answer.Who.{Who};
 ghost use Rattle.tk_types.specs.declared.calls.DeviceCall.TheVariants as call;
+ghost use Rattle.tk_types.specs.declared.run.Mode.{Mode};
+ghost use Rattle.tk_types.specs.declared.script.Script.{Script};
 ghost use Rattle.kernel_model.specs.Words.Checks.{natural};
+ghost use Rattle.kernel_model.specs.Words.Orders.{entry};
 ghost use Rattle.device_model.specs.declared.messages.Ending.{Ending};
 ghost use Rattle.device_model.specs.Devices.Calls.{device_call};
 ghost use Rattle.device_model.specs.Devices.Endings.{DevParts};
@@ -16,15 +19,15 @@ ghost use Rattle.device_model.specs.Devices.Tables.{Devices, Row, dropped, has_e
 ghost use Rattle.device_laws.specs.Claims.{HandsOut, Serves};
 ghost use Rattle.device_laws.specs.Requests.{AreApart, IsGone, StaysSo};
 ghost use Rattle.machine_model.specs.Events.Arrivals.{arrived};
-ghost use Rattle.world_model.specs.Roads.{Road};
-ghost use Rattle.world_model.specs.Worlds.{Step, all_stepped, devices_of, road_at, stepped};
+ghost use Rattle.world_model.specs.Roads.{Road, roads_from};
+ghost use Rattle.world_model.specs.Worlds.{Step, all_stepped, devices_of, road_at, stepped, world_after};
 ghost use Rattle.world_laws.specs.Requests.{HandsOutOwn, IsAbortAsked};
 ghost use Rattle.world_laws.specs.Sound.{AreSound};
 ghost use Rattle.world_laws.specs.Words.{Everywhere};
 
 /// Kernel and drivers, in whatever order they do their steps, agree on every request. In every world:
 ///
-/// each device has one road and one driver, which are sound (`roads`): at most one request is with the driver, and it stands in
+/// each device of the script has a road and a driver (`there`), which are sound (`roads`): at most one request is with the driver, and it stands in
 /// exactly one place; each Abort names that request and was asked, or it names one that has ended and stands before the next
 /// Serve; endings that are ready or sent are fit; the driver's store is the kernel's, with what was done of the request since; a
 /// Stop is given only once the machine is over; and of messages that the driver hasn't taken there are fewer than four, or four
@@ -41,6 +44,8 @@ ghost use Rattle.world_laws.specs.Words.{Everywhere};
 /// buffer (`own_read`, `own_write`). And an ending is handed out once, since the request is let go with it (`once`).
 pub fn world()
     ensures roads { Everywhere (λ w. (d : ℕ) → AreSound (is_some w.over) d (link_at (devices_of w) d) (road_at w d)) }
+    ensures there { (script : Script) (mode : Mode) (budget : ℕ) (steps : List Step) (d : ℕ) →
+        is_some (road_at (world_after script mode budget steps) d) ≡ is_some (entry (None ∷ roads_from 1 script.devices) d) }
     ensures fit { Everywhere (λ w. (d : ℕ) (road : Road) (ending : Ending) (later : List Ending) → w.over ≡ None → road_at w d ≡ Some road →
         road.outbox ≡ ending ∷ later → is_some (arrived w.script w.mode w.state ending) ≡ true) }
     ensures apart { Everywhere (λ w. AreApart (devices_of w)) }

@@ -4,11 +4,15 @@ use Rattle.device_laws.proofs.Lives.{stays_gone}
 use Rattle.world_laws.proofs.Once.{dropped_gone}
 use Rattle.world_laws.proofs.Owns.{read_hands_out, write_hands_out}
 use Rattle.world_laws.proofs.Everywhere.{always_apart, always_fit, always_sound, ended_stays}
+use Rattle.world_laws.proofs.There.{always_there}
 use Rattle.world_laws.proofs.Requests.{step_aborts, steps_keep}
 use Rattle.world_laws.proofs.laws.world.Goals as goal
 
 pub returns-clause-roads : goal.returns-clause-roads
 returns-clause-roads c = always_sound
+
+pub returns-clause-there : goal.returns-clause-there
+returns-clause-there c = always_there
 
 pub returns-clause-fit : goal.returns-clause-fit
 returns-clause-fit c = always_fit
