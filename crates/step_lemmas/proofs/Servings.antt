@@ -173,12 +173,12 @@ close_then old mid next now none nor some first not second neither it one =
     serves_later acceptances _ old mid now none true first not
     (serves_later endings (closes ∷ suspension ∷ []) mid next now nor true second neither (serves_here closes (suspension ∷ []) next now some it one))
 
-pub suspension_last : (old mid next last now : State) (none nor no some : Bool) → Serves acceptances old mid none → none ≡ false → Serves endings mid next nor → nor ≡ false → Serves closes next last no → no ≡ false →
+pub suspension_last : (old mid next last now : State) (none nor neither_one some : Bool) → Serves acceptances old mid none → none ≡ false → Serves endings mid next nor → nor ≡ false → Serves closes next last neither_one → neither_one ≡ false →
     Serves suspension last now some → Serves (first_serving at_devices) old now some
-suspension_last old mid next last now none nor no some first not second neither third never it =
+suspension_last old mid next last now none nor neither_one some first not second neither third never it =
     serves_later acceptances _ old mid now none some first not
     (serves_later endings (closes ∷ suspension ∷ []) mid next now nor some second neither
-    (serves_later closes (suspension ∷ []) next last now no some third never (serves_as suspension (first_serving (suspension ∷ [])) last now some (last_kind suspension (parts_of last)) it)))
+    (serves_later closes (suspension ∷ []) next last now neither_one some third never (serves_as suspension (first_serving (suspension ∷ [])) last now some (last_kind suspension (parts_of last)) it)))
 
 -- a fixed pool serves, or else a variable one, or else a kind of waits at devices
 pub fixed_first : (old now : State) (some : Bool) → Serves fixed_pools old now some → some ≡ true → Serves (first_serving behind_buffers) old now true
