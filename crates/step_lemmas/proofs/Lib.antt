@@ -8,3 +8,5 @@ pub mod Still
 pub mod Pending
 pub mod Starting
 pub mod Going
+pub mod NoDevices
+pub mod Unstarved

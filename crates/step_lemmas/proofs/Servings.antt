@@ -17,7 +17,7 @@ use Rattle.object_model.specs.Pools.Variable.{serve_variable_pools}
 use Rattle.device_model.specs.Devices.Tables.{Devices}
 use Rattle.device_model.specs.Devices.Endings.{DevParts}
 use Rattle.device_model.specs.Devices.Handing.{hand_over}
-use Rattle.machine_model.specs.States.Objects.{Parts, dev_parts, first_serving, serve_object, with_devices, with_mails, with_mutexes, with_pools, with_sem_flags}
+use Rattle.machine_model.specs.States.Objects.{Parts, first_serving, serve_object, with_devices, with_mails, with_mutexes, with_pools, with_sem_flags}
 use Rattle.machine_model.specs.States.State.{State, parts_of, with_parts}
 use Rattle.machine_model.specs.Events.Settle.{handed, refreshed, served_within}
 use Rattle.machine_lemmas.proofs.Settling.{next_served, refreshed_keeps}
