@@ -25,6 +25,10 @@ free_written used id slots slot old = record {
       entry_other slots id n slot (λ is. omega (arith, past, from, is)) ∙ old.free n (omega (arith, before, from));
 }
 
+-- where a slot other than 0 is written, that of 0 stays free
+pub unnamed_written : (id : ℕ) (slots : List (Option MessageBuffer)) (slot : Option MessageBuffer) → 1 ≤ id → entry slots 0 ≡ None → entry (slice_set slots id slot) 0 ≡ None
+unnamed_written id slots slot named none = entry_other slots id 0 slot (λ is. omega (arith, named, is)) ∙ none
+
 -- the tables are fit when all is free
 pub fit_at_start : (boxes : List (Option Mailbox)) (buffers : List (Option MessageBuffer)) (sending : List (List ℕ)) (into : List ℕ) →
     boxes ≡ replicate 65 None → buffers ≡ replicate 65 None → sending ≡ replicate 256 [] → into ≡ replicate 256 0 → AreTables boxes buffers sending into 1 1
@@ -37,4 +41,5 @@ fit_at_start boxes buffers sending into no_boxes no_buffers no_sending no_into =
   used_buffers = omega arith;
   free_boxes = subst (λ (slots : List (Option Mailbox)). AreFreeFrom 1 slots) (sym no_boxes) (free_at_start 1 65);
   free_buffers = subst (λ (slots : List (Option MessageBuffer)). AreFreeFrom 1 slots) (sym no_buffers) (free_at_start 1 65);
+  unnamed = subst (λ (slots : List (Option MessageBuffer)). entry slots 0 ≡ None) (sym no_buffers) refl;
 }

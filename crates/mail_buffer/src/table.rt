@@ -8,7 +8,7 @@ ghost use Rattle.object_model.specs.Mails.Calls.{asked_into, asked_to_send, free
 ghost use Rattle.object_model.specs.Mails.Tables.{Mailbox, MessageBuffer, box_at, buffer_at, bytes_of, has_mbf, has_mbx, mails_start, place_of, with_box, with_buffer};
 ghost use Rattle.object_model.specs.Mails.Bytes.{with_bytes};
 ghost use Rattle.mail_buffer.specs.Cuts.{MayEnter, oldest_of};
-ghost use Rattle.mail_buffer.specs.Tables.{AreFreeFrom};
+ghost use Rattle.mail_buffer.specs.Tables.{AreFreeFrom, AreNamed};
 
 use crate::boxes::Mailbox;
 use crate::buffers::MessageBuffer;
@@ -142,6 +142,13 @@ impl Mails {
         let _sending = &self.sending;
     }
 
+    /// States, at no cost, that the IDs of message buffers are from 1 to 64.
+    pub fn known_of_buffers(&self)
+        ensures { AreNamed self.now }
+    {
+        let _buffers = &self.buffers;
+    }
+
     /// Where what the table keeps is allocated.
     pub(crate) fn alloc(&self) -> Global {
         self.alloc
@@ -237,9 +244,10 @@ impl Mails {
     }
 
     /// Writes the slot of a message buffer.
-    #[tactic(auto, using(crate::proofs::Tables::free_written))]
+    #[tactic(auto, using(crate::proofs::Tables::free_written, crate::proofs::Tables::unnamed_written))]
     pub(crate) fn set_buffer(&mut self, id: u8, slot: Option<MessageBuffer>)
-        requires { id ≤ 64 }
+        requires low { 1 ≤ id }
+        requires high { id ≤ 64 }
         ensures { self.new ≡ with_buffer self.old id slot }
     {
         self.buffers[id as usize] = slot;

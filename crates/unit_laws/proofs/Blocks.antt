@@ -4,6 +4,7 @@ use Rattle.std.specs.Prelude.{if◌then◌else◌, ◌&&◌, nat_le}
 use Rattle.std.proofs.lemmas.List.{append-nil}
 use Rattle.tk_types.specs.declared.script.Kind.{Kind}
 use Rattle.device_model.specs.declared.messages.Request.{Request}
+use Rattle.device_model.specs.RoomyBytes.{RoomyBytes}
 use Rattle.device_model.specs.Units.Stores.{Store, log_limit, is_log, write_at}
 use Rattle.device_model.specs.Units.Function.{IsWhole, Served, begin, content_of, count_of, cut, moved, unit}
 use Rattle.device_model.specs.Units.Blocks.{Partial, block, blocks, count_at, is_last, moved_on, piece}
@@ -19,7 +20,7 @@ pub nothing_written : (log : Bool) (bytes : List ℕ) (start : ℕ) → (if log 
 nothing_written true bytes start = append-nil bytes
 nothing_written false bytes start = write_none bytes start
 
-none_moved_by : (kind : Kind) (so_far : Partial) (id number : ℕ) (write : Bool) (start size : ℕ) (bytes : List ℕ) (m : ℕ) →
+none_moved_by : (kind : Kind) (so_far : Partial) (id number : ℕ) (write : Bool) (start size : ℕ) (bytes : RoomyBytes) (m : ℕ) →
     let request : Request = record { id = id; number = number; write = write; start = start; size = size; bytes = bytes } in
     moved_on kind so_far request m 0 ≡ so_far
 none_moved_by kind so_far id number true start size bytes m = ap (λ (b : List ℕ). record so_far { store = record so_far.store { bytes = b } }) (nothing_written (is_log kind) so_far.store.bytes (start + m))
@@ -29,17 +30,17 @@ none_moved_by kind so_far id number false start size bytes m = ap (λ (b : List 
 none_moved : (kind : Kind) (so_far : Partial) (request : Request) (m : ℕ) → moved_on kind so_far request m 0 ≡ so_far
 none_moved kind so_far request m = none_moved_by kind so_far request.id request.number request.write request.start request.size request.bytes m
 
-more_moved_by : (kind : Kind) (begun : Store) (id number : ℕ) (write : Bool) (start size : ℕ) (bytes : List ℕ) (m n : ℕ) →
+more_moved_by : (kind : Kind) (begun : Store) (id number : ℕ) (write : Bool) (start size : ℕ) (bytes : RoomyBytes) (m n : ℕ) →
     let request : Request = record { id = id; number = number; write = write; start = start; size = size; bytes = bytes } in
-    (write ≡ true → m ≤ length bytes) → (write ≡ true → is_log kind ≡ false → start + (m + n) ≤ length begun.bytes) →
+    (write ≡ true → m ≤ length bytes.items) → (write ≡ true → is_log kind ≡ false → start + (m + n) ≤ length begun.bytes) →
     moved_on kind (part kind begun request m) request m n ≡ part kind begun request (m + n)
 more_moved_by kind begun id number true start size bytes m n most fits =
-    ap (λ (b : List ℕ). let r : Partial = record { store = record begun { bytes = b }; content = [] } in r) (written_more (is_log kind) begun.bytes bytes start m n (most refl) (fits refl))
+    ap (λ (b : List ℕ). let r : Partial = record { store = record begun { bytes = b }; content = [] } in r) (written_more (is_log kind) begun.bytes bytes.items start m n (most refl) (fits refl))
 more_moved_by kind begun id number false start size bytes m n most fits =
     ap (λ (b : List ℕ). let r : Partial = record { store = begun; content = b } in r) (read_two start m n begun.bytes)
 
 -- bytes that are moved behind those that were moved last
-more_moved : (kind : Kind) (begun : Store) (request : Request) (m n : ℕ) → (request.write ≡ true → m ≤ length request.bytes) → (request.write ≡ true → is_log kind ≡ false → request.start + (m + n) ≤ length begun.bytes) →
+more_moved : (kind : Kind) (begun : Store) (request : Request) (m n : ℕ) → (request.write ≡ true → m ≤ length request.bytes.items) → (request.write ≡ true → is_log kind ≡ false → request.start + (m + n) ≤ length begun.bytes) →
     moved_on kind (part kind begun request m) request m n ≡ part kind begun request (m + n)
 more_moved kind begun request m n most fits = more_moved_by kind begun request.id request.number request.write request.start request.size request.bytes m n most fits
 
@@ -57,7 +58,7 @@ pub further : (kind : Kind) (begun : Store) (request : Request) (m n : ℕ) → 
 further kind begun request m zero whole most = none_moved kind (part kind begun request m) request m ∙ ap (λ (all : ℕ). part kind begun request all) (omega arith)
 further kind begun request m (suc n) whole most =
     more_moved kind begun request m (suc n)
-    (λ write. count_bounds kind begun request (m + suc n) (m ≤ length request.bytes) most (omega arith) (λ size there. let all : length request.bytes ≡ request.size = whole.size write in omega (arith, all, size)))
+    (λ write. count_bounds kind begun request (m + suc n) (m ≤ length request.bytes.items) most (omega arith) (λ size there. let all : length request.bytes.items ≡ request.size = whole.size write in omega (arith, all, size)))
     (λ write other. count_bounds kind begun request (m + suc n) (request.start + (m + suc n) ≤ length begun.bytes) most (omega arith)
     (λ size there. written_inside kind begun.bytes request.write request.start (m + suc n) write other (omega arith) there))
 
@@ -68,7 +69,7 @@ block_from kind begun request k whole most =
     ap (λ (count : ℕ). moved_on kind (part kind begun request (64 * k)) request (64 * k) (piece count (64 * k))) (count_same kind begun request (64 * k) whole most)
     ∙ further kind begun request (64 * k) (piece (count_of kind begun request) (64 * k)) whole (grind (arith, most))
 
-part_none_by : (kind : Kind) (begun : Store) (id number : ℕ) (write : Bool) (start size : ℕ) (bytes : List ℕ) →
+part_none_by : (kind : Kind) (begun : Store) (id number : ℕ) (write : Bool) (start size : ℕ) (bytes : RoomyBytes) →
     let request : Request = record { id = id; number = number; write = write; start = start; size = size; bytes = bytes } in
     (let r : Partial = record { store = begun; content = [] } in r) ≡ part kind begun request 0
 part_none_by kind begun id number true start size bytes = ap (λ (b : List ℕ). let r : Partial = record { store = record begun { bytes = b }; content = [] } in r) (sym (nothing_written (is_log kind) begun.bytes start))

@@ -4,6 +4,7 @@ use Rattle.std.specs.Prelude.{if◌then◌else◌, ◌==◌, ◌&&◌, min}
 use Rattle.std.proofs.lemmas.List.{places}
 use Rattle.tk_types.specs.declared.script.Kind.{Kind}
 use Rattle.device_model.specs.declared.messages.Request.{Request}
+use Rattle.device_model.specs.RoomyBytes.{RoomyBytes}
 use Rattle.device_model.specs.Units.Stores.{Store, log_limit, is_log, is_spoilt, write_at}
 use Rattle.device_model.specs.Units.Function.{IsWhole, available, count_of, moved}
 use Rattle.device_model.specs.Units.Blocks.{count_at}
@@ -34,12 +35,12 @@ room_read : (log : Bool) (bytes : List ℕ) (start m : ℕ) →
 room_read true bytes start m = omega arith
 room_read false bytes start m = omega arith
 
-counted : (kind : Kind) (begun : Store) (id number : ℕ) (write : Bool) (start size : ℕ) (bytes : List ℕ) (m : ℕ) →
+counted : (kind : Kind) (begun : Store) (id number : ℕ) (write : Bool) (start size : ℕ) (bytes : RoomyBytes) (m : ℕ) →
     let request : Request = record { id = id; number = number; write = write; start = start; size = size; bytes = bytes } in
-    (write ≡ true → length bytes ≡ size) → m ≤ count_of kind begun request →
+    (write ≡ true → length bytes.items ≡ size) → m ≤ count_of kind begun request →
     count_at kind (moved kind begun request m) request m ≡ count_of kind begun request
 counted kind begun id number true start size bytes m whole most =
-    same_if (size == 0) (is_spoilt kind begun.begun) size _ _ m most (λ inside there. room_written (is_log kind) begun.bytes bytes start m (let all : length bytes ≡ size = whole refl in omega (arith, all, inside)) there)
+    same_if (size == 0) (is_spoilt kind begun.begun) size _ _ m most (λ inside there. room_written (is_log kind) begun.bytes bytes.items start m (let all : length bytes.items ≡ size = whole refl in omega (arith, all, inside)) there)
 counted kind begun id number false start size bytes m whole most =
     same_if (size == 0) (is_spoilt kind begun.begun) size _ _ m most (λ inside there. room_read (is_log kind) begun.bytes start m)
 

@@ -5,6 +5,7 @@ use Rattle.std.proofs.lemmas.List.{take-take, same_lists, places}
 use Rattle.std.proofs.lemmas.Bool.Decides.{nat_tests}
 use Rattle.tk_types.specs.declared.script.Kind.{Kind}
 use Rattle.device_model.specs.declared.messages.Request.{Request}
+use Rattle.device_model.specs.RoomyBytes.{RoomyBytes, bytes_within}
 use Rattle.device_model.specs.Units.Stores.{Store, log_limit, is_log, is_spoilt, write_at}
 use Rattle.device_model.specs.Units.Function.{IsWhole, available, begin, content_of, count_of, cut, moved, unit, written}
 use Rattle.device_model.specs.Units.Blocks.{Partial}
@@ -17,7 +18,7 @@ begun_bytes store false = refl
 
 -- a request for its first bytes alone
 abbrev pub shorter : Request → ℕ → Request
-shorter request count = record request { size = count; bytes = take count request.bytes }
+shorter request count = record request { size = count; bytes = record request.bytes { items = take count request.bytes.items } }
 
 front_by : (write : Bool) (m n : ℕ) (bytes : List ℕ) → m ≤ n → (if write then [] else take m bytes) ≡ take m (if write then [] else take n bytes)
 front_by true zero n bytes most = refl
@@ -60,7 +61,7 @@ shorter_begun kind store request m some most =
 part_shorter : (kind : Kind) (begun : Store) (request : Request) (m : ℕ) → part kind begun (shorter request m) m ≡ part kind begun request m
 part_shorter kind begun request m =
     ap (λ (new : List ℕ). let r : Partial = record { store = if request.write then record begun { bytes = written kind begun.bytes request new } else begun; content = content_of begun request m } in r)
-    (take-take m m request.bytes (omega arith))
+    (take-take m m request.bytes.items (omega arith))
 
 -- a request that is cut off leaves and has read what the shorter one does
 pub cut_is_shorter : (kind : Kind) (store : Store) (request : Request) (m : ℕ) → 0 < m → m ≤ count_of kind (begin store request) request →
@@ -71,7 +72,7 @@ cut_is_shorter kind store request m some most =
     ∙ (ap (λ (count : ℕ). part kind (begin store request) (shorter request m) count) (shorter_count kind (begin store request) request m some most)
     ∙ part_shorter kind (begin store request) request m))
 
-cut_none_by : (kind : Kind) (store : Store) (id number : ℕ) (write : Bool) (start size : ℕ) (bytes : List ℕ) →
+cut_none_by : (kind : Kind) (store : Store) (id number : ℕ) (write : Bool) (start size : ℕ) (bytes : RoomyBytes) →
     let request : Request = record { id = id; number = number; write = write; start = start; size = size; bytes = bytes } in
     (moved kind (begin store request) request 0).bytes ≡ store.bytes
 cut_none_by kind store id number true start size bytes = nothing_written (is_log kind) _ start ∙ begun_bytes store (size == 0)
@@ -97,16 +98,16 @@ none_and : (log : Bool) (n m : ℕ) → (if log && false then n else m) ≡ m
 none_and true n m = refl
 none_and false n m = refl
 
-moved_length_by : (kind : Kind) (begun : Store) (id number : ℕ) (write : Bool) (start size : ℕ) (bytes : List ℕ) (m : ℕ) →
+moved_length_by : (kind : Kind) (begun : Store) (id number : ℕ) (write : Bool) (start size : ℕ) (bytes : RoomyBytes) (m : ℕ) →
     let request : Request = record { id = id; number = number; write = write; start = start; size = size; bytes = bytes } in
-    (write ≡ true → length bytes ≡ size) → m ≤ count_of kind begun request →
+    (write ≡ true → length bytes.items ≡ size) → m ≤ count_of kind begun request →
     length (moved kind begun request m).bytes ≡ (if is_log kind && write then length begun.bytes + m else length begun.bytes)
 moved_length_by kind begun id number true start size bytes zero whole most =
     ap (λ (b : List ℕ). length b) (nothing_written (is_log kind) begun.bytes start) ∙ sym (length_none_and (is_log kind) (length begun.bytes))
 moved_length_by kind begun id number true start size bytes (suc m) whole most =
     let facts = not_none (size == 0) (is_spoilt kind begun.begun) size _ (suc m) most (omega arith) in
-    let inside : suc m ≤ length bytes = let all : length bytes ≡ size = whole refl in omega (arith, all, facts.2) in
-    length_moved (is_log kind) begun.bytes bytes start (suc m) inside facts.3
+    let inside : suc m ≤ length bytes.items = let all : length bytes.items ≡ size = whole refl in omega (arith, all, facts.2) in
+    length_moved (is_log kind) begun.bytes bytes.items start (suc m) inside facts.3
 moved_length_by kind begun id number false start size bytes m whole most = sym (none_and (is_log kind) (length begun.bytes + m) (length begun.bytes))
 
 -- a log grows by what is written to it, and another store keeps its length
@@ -144,7 +145,7 @@ log_stays_below kind store request m whole below most =
 
 -- the request that reads as many bytes from where another one starts
 abbrev pub reading : Request → ℕ → Request
-reading request count = record request { write = false; size = count; bytes = [] }
+reading request count = record request { write = false; size = count; bytes = bytes_within count [] }
 
 read_again : (bytes new : List ℕ) (start n : ℕ) → n ≡ length new → start + n ≤ length bytes → take (min n (length (write_at bytes start new) - start)) (drop start (write_at bytes start new)) ≡ new
 read_again bytes new start n is fits = same_lists _ _ (search (rules, places)) (λ k d h. grind (arith, places))
@@ -155,10 +156,10 @@ count_plain false true log n x y is healthy = absurd (cc healthy)
 count_plain false false true n x y is healthy = refl
 count_plain false false false n x y is healthy = refl
 
-bytes_written : (kind : Kind) (begun : Store) (id number : ℕ) (write : Bool) (start size : ℕ) (bytes : List ℕ) (m : ℕ) → write ≡ true → is_log kind ≡ false →
+bytes_written : (kind : Kind) (begun : Store) (id number : ℕ) (write : Bool) (start size : ℕ) (bytes : RoomyBytes) (m : ℕ) → write ≡ true → is_log kind ≡ false →
     let request : Request = record { id = id; number = number; write = write; start = start; size = size; bytes = bytes } in
-    (moved kind begun request m).bytes ≡ write_at begun.bytes start (take m bytes)
-bytes_written kind begun id number true start size bytes m is other = ap (λ (log : Bool). if log then begun.bytes ++ take m bytes else write_at begun.bytes start (take m bytes)) other
+    (moved kind begun request m).bytes ≡ write_at begun.bytes start (take m bytes.items)
+bytes_written kind begun id number true start size bytes m is other = ap (λ (log : Bool). if log then begun.bytes ++ take m bytes.items else write_at begun.bytes start (take m bytes.items)) other
 bytes_written kind begun id number false start size bytes m is other = absurd (cc is)
 
 inside_of : (log write : Bool) (room start m n : ℕ) → log ≡ false → 0 < m → m ≤ (if log && write then room else n - start) → start + m ≤ n
@@ -171,18 +172,18 @@ pub written_is_read : (kind : Kind) (store : Store) (request : Request) → IsWh
     let next : Store = (unit kind store request).store in
     let again : Request = reading request (count_of kind (begin store request) request) in
     is_spoilt kind (begin next again).begun ≡ false →
-    (unit kind next again).content ≡ take (count_of kind (begin store request) request) request.bytes
+    (unit kind next again).content ≡ take (count_of kind (begin store request) request) request.bytes.items
 unfolding unit
 written_is_read kind store request whole other write some healthy =
     let n : ℕ = count_of kind (begin store request) request in
     let next : Store = moved kind (begin store request) request n in
     let facts = not_none (request.size == 0) (is_spoilt kind (begin store request).begun) request.size (available kind (begin store request).bytes request) n (omega arith) some in
-    let all : length request.bytes ≡ request.size = whole.size write in
-    let many : n ≡ length (take n request.bytes) = sym (length_first n request.bytes (omega (arith, all, facts.2))) in
+    let all : length request.bytes.items ≡ request.size = whole.size write in
+    let many : n ≡ length (take n request.bytes.items) = sym (length_first n request.bytes.items (omega (arith, all, facts.2))) in
     let fits : request.start + n ≤ length (begin store request).bytes = inside_of (is_log kind) request.write (log_limit - length (begin store request).bytes) request.start n (length (begin store request).bytes) other some facts.3 in
-    let stands : (begin next (reading request n)).bytes ≡ write_at (begin store request).bytes request.start (take n request.bytes) =
+    let stands : (begin next (reading request n)).bytes ≡ write_at (begin store request).bytes request.start (take n request.bytes.items) =
     begun_bytes next (n == 0) ∙ bytes_written kind (begin store request) request.id request.number request.write request.start request.size request.bytes n write other in
     ap (λ (count : ℕ). take count (drop request.start (begin next (reading request n)).bytes))
     (count_plain (n == 0) (is_spoilt kind (begin next (reading request n)).begun) (is_log kind) n _ _ (grind (arith, nat_tests, some)) healthy)
     ∙ (ap (λ (bytes : List ℕ). take (min n (length bytes - request.start)) (drop request.start bytes)) stands
-    ∙ read_again (begin store request).bytes (take n request.bytes) request.start n many fits)
+    ∙ read_again (begin store request).bytes (take n request.bytes.items) request.start n many fits)

@@ -3,6 +3,7 @@
 ghost use Rattle.std.specs.Prelude.{◌≡◌, ℕ, suc, ◌+◌, ◌*◌, ◌<◌, ◌≤◌, true, false, nat_le, length, take, List, []};
 ghost use Rattle.tk_types.specs.declared.script.Kind.{Kind};
 ghost use Rattle.device_model.specs.declared.messages.Request.{Request};
+ghost use Rattle.device_model.specs.RoomyBytes.{bytes_within};
 ghost use Rattle.device_model.specs.Units.Stores.{Store, is_log, is_spoilt, log_limit};
 ghost use Rattle.device_model.specs.Units.Function.{IsWhole, begin, count_of, cut, unit};
 ghost use Rattle.device_model.specs.Units.Blocks.{blocks, is_last};
@@ -34,7 +35,7 @@ pub fn blocks_are_the_whole_request()
 pub fn a_cut_request_is_a_front_of_it()
     ensures store { (kind : Kind) (store : Store) (request : Request) (m : ℕ) → 0 < m →
         m ≤ count_of kind (begin store request) request →
-        (cut kind store request m).store ≡ (unit kind store (record request { size = m; bytes = take m request.bytes })).store }
+        (cut kind store request m).store ≡ (unit kind store (record request { size = m; bytes = record request.bytes { items = take m request.bytes.items } })).store }
     ensures content { (kind : Kind) (store : Store) (request : Request) (m : ℕ) →
         m ≤ count_of kind (begin store request) request →
         (cut kind store request m).content ≡ take m (unit kind store request).content }
@@ -60,7 +61,9 @@ pub fn stores_keep_their_bounds()
 pub fn what_was_written_is_read()
     ensures { (kind : Kind) (store : Store) (request : Request) → IsWhole request → is_log kind ≡ false →
         request.write ≡ true → 0 < count_of kind (begin store request) request →
-        is_spoilt kind (begin (unit kind store request).store (record request { write = false; size = count_of kind (begin store request) request; bytes = [] })).begun ≡ false →
-        (unit kind (unit kind store request).store (record request { write = false; size = count_of kind (begin store request) request; bytes = [] })).content
-        ≡ take (count_of kind (begin store request) request) request.bytes }
+        is_spoilt kind (begin (unit kind store request).store
+        (record request { write = false; size = count_of kind (begin store request) request; bytes = bytes_within (count_of kind (begin store request) request) [] })).begun ≡ false →
+        (unit kind (unit kind store request).store
+        (record request { write = false; size = count_of kind (begin store request) request; bytes = bytes_within (count_of kind (begin store request) request) [] })).content
+        ≡ take (count_of kind (begin store request) request) request.bytes.items }
 {}
