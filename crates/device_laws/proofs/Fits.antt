@@ -72,11 +72,10 @@ by_fit : (p q : DevParts) (ending : Ending) (link : Link) (given : Given) (fit :
 by_fit p q ending link given false fit is = absurd (cc is)
 by_fit p q ending link given true fit is =
     let served : Served = served_of link.kind link.store given.request ending.how in
-    let facts = both (is_allowed link.kind link.store given ending.how) (says ending given.request served) fit in
-    (
+    let facts = both (is_allowed link.kind link.store given ending.how) (says ending given.request served) fit in (
       room_of given.request served,
       ap (λ (allowed : Bool). if allowed then Some (ending_of ending.device given.request ending.how served) else None) facts.0
-      ∙ ap (λ (e : Ending). Some e) (said ending given.request served facts.1),
+          ∙ ap (λ (e : Ending). Some e) (said ending given.request served facts.1),
     )
 
 by_given : (p q : DevParts) (ending : Ending) (link : Link) (given : Option Given) → arrive_given p ending link given ≡ Some q → WasExpected ending (expected_given ending.device ending.how link given)

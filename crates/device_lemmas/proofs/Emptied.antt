@@ -1,11 +1,11 @@
 -- Messages to drivers that are taken leave all else of the devices: the links are the same, each with what its driver has.
-use Rattle.std.proofs.Common.{◌≡◌, ℕ, zero, suc, ◌+◌, ◌||◌, length, List, [], ◌∷◌, Option, Some, None, refl, ◌∙◌, ap}
+use Rattle.std.proofs.Common.{◌≡◌, ℕ, zero, suc, ◌+◌, ◌||◌, length, List, [], ◌∷◌, ◌++◌, Option, Some, None, refl, ◌∙◌, ap, sym}
 use Rattle.std.specs.Prelude.{drop, map}
 use Rattle.std.specs.List.{list_any}
 use Rattle.std.specs.Option.{is_some}
 use Rattle.kernel_model.specs.Words.Orders.{entry, taken_from}
 use Rattle.device_model.specs.Devices.Tables.{Devices, Link, at_driver, device_ids, given_in, link_at, request_in}
-use Rattle.device_model.specs.Devices.Handing.{any_given, emptied, has_given, link_emptied}
+use Rattle.device_model.specs.Devices.Handing.{any_given, emptied, has_given, link_emptied, messages, out_of}
 
 links_many : (links : List (Option Link)) → length (map link_emptied links) ≡ length links
 links_many [] = refl
@@ -70,3 +70,35 @@ link_there (Some link) = refl
 -- and each device is there that was
 pub emptied_there : (dv : Devices) (d : ℕ) → is_some (link_at (emptied dv) d) ≡ is_some (link_at dv d)
 emptied_there dv d = ap is_some (emptied_at dv d) ∙ link_there (link_at dv d)
+
+-- ---- what waits to be taken
+
+links_out : (links : List (Option Link)) → out_of (map link_emptied links) ≡ []
+links_out [] = refl
+links_out (None ∷ links) = links_out links
+links_out (Some link ∷ links) = links_out links
+
+-- no message is left
+pub emptied_out : (dv : Devices) → messages (emptied dv) ≡ []
+unfolding emptied messages
+emptied_out dv = links_out dv.links
+
+none_of_two : {A : Type 0} → (xs ys : List A) → xs ++ ys ≡ [] → (xs ≡ []) × (ys ≡ [])
+none_of_two [] ys is = (refl, is)
+none_of_two (x ∷ xs) ys is = absurd (cc is)
+
+links_same : (links : List (Option Link)) → out_of links ≡ [] → map link_emptied links ≡ links
+links_same [] is = refl
+links_same (None ∷ links) is = ap (λ (later : List (Option Link)). None ∷ later) (links_same links is)
+links_same (Some link ∷ links) is =
+    let none = none_of_two link.out (out_of links) is in
+    ap (λ out. Some (record link { out = out }) ∷ map link_emptied links) (sym none.0) ∙ ap (λ (later : List (Option Link)). Some link ∷ later) (links_same links none.1)
+
+-- where none waits nothing changes
+pub emptied_none : (dv : Devices) → messages dv ≡ [] → emptied dv ≡ dv
+unfolding emptied messages
+emptied_none dv none = ap (λ (links : List (Option Link)). record dv { links = links }) (links_same dv.links none)
+
+-- so it is where they were taken just before
+pub emptied_twice : (dv : Devices) → emptied (emptied dv) ≡ emptied dv
+emptied_twice dv = emptied_none (emptied dv) (emptied_out dv)

@@ -5,12 +5,12 @@ use Rattle.tk_types.specs.declared.run.Mode.{Mode}
 use Rattle.tk_types.specs.declared.run.Mode.TheVariants as modes
 use Rattle.kernel_model.specs.Tasks.Base.{Base, fifo_queue}
 use Rattle.device_model.specs.Devices.Tables.{Devices, device_ids, first_queued}
-use Rattle.device_model.specs.Devices.Handing.{emptied, hand_over, handed_all, handed_unless, link_emptied, suspension_object}
+use Rattle.device_model.specs.Devices.Handing.{emptied, hand_over, handed_all, handed_unless, link_emptied, messages, suspension_object}
 use Rattle.machine_model.specs.States.Objects.{Parts, serve_object}
 use Rattle.machine_model.specs.States.State.{State, parts_of, taken}
 use Rattle.machine_model.specs.Events.Rest.{IsAtRest}
 use Rattle.machine_model.specs.Events.Settle.{handed}
-use Rattle.device_lemmas.proofs.Emptied.{emptied_any, emptied_at, emptied_driver, emptied_ids}
+use Rattle.device_lemmas.proofs.Emptied.{emptied_any, emptied_at, emptied_driver, emptied_ids, emptied_none, emptied_out}
 use Rattle.machine_lemmas.proofs.HandedTwice.{AllStay, Stays, absent, all_same, all_stay, busy, empty}
 use Rattle.machine_lemmas.proofs.HandingServes.{AsReady, ready_unserved}
 
@@ -94,3 +94,11 @@ taken_rest mode st rest = record {
   followed = rest.followed;
   dispatched = rest.dispatched;
 }
+
+-- where no message waits to be taken the state is the same
+pub taken_none : (st : State) → messages st.objects.devices ≡ [] → taken st ≡ st
+taken_none st none = ap (λ (now : Devices). record st { objects = record st.objects { devices = now } }) (emptied_none st.objects.devices none)
+
+-- so it is where they were taken just before
+pub taken_twice : (st : State) → taken (taken st) ≡ taken st
+taken_twice st = taken_none (taken st) (emptied_out st.objects.devices)
