@@ -10,3 +10,4 @@ pub mod Starting
 pub mod Going
 pub mod NoDevices
 pub mod Unstarved
+pub mod Arriving
