@@ -199,7 +199,7 @@ impl Unit {
 
     /// The next bytes of a write, so many, go into the store, behind those that were moved.
     fn write_on(&mut self, request: &Request, moved: usize, count: usize)
-        requires source { moved + count ≤ length request.now.bytes }
+        requires source { moved + count ≤ length request.now.bytes.items }
         requires place { is_log self.old.kind ≡ false → request.now.start + moved + count ≤ length self.old.store.bytes }
         requires room { is_log self.old.kind ≡ true → length self.old.store.bytes + count ≤ log_limit }
         ensures { self.new ≡ record self.old { store = record self.old.store { bytes = written_on self.old.kind self.old.store.bytes request.now moved count } } }
