@@ -191,6 +191,7 @@ asks_are_kept = record {
   served = served_asked;
   handed = handed_asked;
   handed_first = λ p has. made_of _ (orders_are_kept.handed_first p has.orders) (slots_are_kept.handed_first p has.slots) has.sizes (holds p p.base has (rows p has));
+  messages = λ p has. made_of _ (orders_are_kept.messages p has.orders) (slots_are_kept.messages p has.slots) has.sizes (holds p p.base has (rows p has));
   arrived = arrived_asked;
   released = λ p t answer has. of_base p _ (orders_are_kept.released p t answer has.orders) (slots_are_kept.released p t answer has.slots)
       (release_asks (Asked p.objects.mails p.objects.pools.sizes) p.base t answer (rows p has)) has;

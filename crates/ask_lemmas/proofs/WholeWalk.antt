@@ -45,7 +45,7 @@ use Rattle.context_model.specs.Hooks.Calls.{hook_call}
 use Rattle.device_model.specs.declared.messages.Ending.{Ending}
 use Rattle.device_model.specs.Devices.Calls.{device_call}
 use Rattle.device_model.specs.Devices.Endings.{DevParts, arrive}
-use Rattle.device_model.specs.Devices.Handing.{hand_first}
+use Rattle.device_model.specs.Devices.Handing.{emptied, hand_first}
 use Rattle.machine_model.specs.declared.turns.Turn.{Turn}
 use Rattle.machine_model.specs.declared.turns.Turn.TheVariants as turns
 use Rattle.machine_model.specs.States.Objects.{Parts, dev_parts, mail_parts, pool_parts, with_devices}
@@ -92,6 +92,7 @@ pub record IsKeptWhole (P : Parts → Type 0) : Type 0 where
   pub served : Served P
   pub handed : Handed P
   pub handed_first : (p : Parts) → P p → P (record p { objects = record p.objects { devices = hand_first p.objects.devices } })
+  pub messages : (p : Parts) → P p → P (record p { objects = record p.objects { devices = emptied p.objects.devices } })
   pub arrived : (p : Parts) (e : Ending) (q : DevParts) → arrive (dev_parts p) e ≡ Some q → P p → P (with_devices p q)
   pub released : (p : Parts) (t : ℕ) (answer : Answer) → P p → P (record p { base = release p.base t answer })
   pub again : (p : Parts) (what : DueKind) → P p → P (record p { base = again p.base p.objects.clocks what })
@@ -300,12 +301,12 @@ kept_worked P kept script mode n st has =
 
 step_whole : (P : Parts → Type 0) → IsKeptWhole P → (script : Script) (mode : Mode) (budget : ℕ) (st : State) → Has P st → Has P (worked script mode (st.steps + 1) st).state →
     Has P (after_pace st (step script mode budget st))
-step_whole P kept script mode budget st has works = step_is (Has P) script mode budget st has (λ sync. kept.handed_first (parts_of st) has) works
+step_whole P kept script mode budget st has works = step_is (Has P) (λ now. kept.messages (parts_of now)) script mode budget st has (λ sync. kept.handed_first (parts_of st) has) works
 
 pub kept_move : (P : Parts → Type 0) → IsKeptWhole P → (script : Script) (mode : Mode) (budget : ℕ) (st : State) (move : Move) → Has P st → Has P (after_move script mode budget st move)
 kept_move P kept script mode budget st Steps has = step_whole P kept script mode budget st has (kept_worked P kept script mode (st.steps + 1) st has)
 kept_move P kept script mode budget st (Arrives e) has =
-    offer_has P script mode st e has
+    offer_has P (λ now. kept.messages (parts_of now)) script mode st e has
     (λ q is. kept_followed P kept script mode (st.steps + 1) (with_parts st (with_devices (parts_of st) q)) (kept.arrived (parts_of st) e q is has))
 
 -- what survives each change holds in every state that a machine comes to, where it holds once the first task is dispatched

@@ -10,7 +10,7 @@ use Rattle.device_model.specs.declared.messages.Ending.{Ending}
 use Rattle.device_model.specs.Devices.Endings.{DevParts, arrive}
 use Rattle.device_model.specs.Devices.Handing.{any_given, any_queued}
 use Rattle.machine_model.specs.States.Objects.{dev_parts, with_devices}
-use Rattle.machine_model.specs.States.State.{State, parts_of, with_parts}
+use Rattle.machine_model.specs.States.State.{State, parts_of, taken, with_parts}
 use Rattle.machine_model.specs.Events.Follow.{Event, dispatched, follow_each, follow_release, followed, settled, turned, with_releases}
 use Rattle.machine_model.specs.Events.Arrivals.{after_arrival, arrived}
 use Rattle.machine_model.specs.Runs.Step.{Needs, any_unfinished, counted, ended_or_went, handed_if, has_event, is_quiet, needed, needed_or, needed_sync, needs_if, step, step_if, with_first_handed}
@@ -111,6 +111,12 @@ quiet_is false script mode budget st now is at = ended_is false script mode budg
 pub needs_counted : (script : Script) (mode : Mode) (budget : ℕ) (st now : State) → IsCounted st → step script mode budget st ≡ Needs now → IsCounted now × (now.steps ≡ st.steps)
 unfolding step
 needs_counted script mode budget st now is at = quiet_is (is_quiet st) script mode budget st now is at
+
+-- ---- messages to drivers
+
+-- the counts hold where they are taken, and that is no step
+pub taken_counted : (st : State) → IsCounted st → IsCounted (taken st) × ((taken st).steps ≡ st.steps)
+taken_counted st is = (record { time = is.time; ticks = is.ticks; events = is.events; made = is.made }, refl)
 
 -- ---- how large the counts get
 

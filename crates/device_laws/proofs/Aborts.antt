@@ -15,7 +15,8 @@ use Rattle.device_model.specs.Units.Function.{appends, begin, count_of, may_cut,
 use Rattle.device_model.specs.Devices.Tables.{Given, Link, Row, Devices, first_queued, given_in, is_at_driver, link_at, row_at, accepted, accepted_in, dropped, dropped_in, handed, handed_first, handed_given, handed_link, handed_row}
 use Rattle.device_model.specs.Devices.Endings.{ended_at, ending_of, expected, expected_given, expected_link, is_allowed, served_of}
 use Rattle.device_model.specs.Devices.MoveProofs.{is_abort, is_aborted}
-use Rattle.device_laws.specs.Moves.{Move, Opens, Wishes, Buffers, Offs, Accepts, Drops, Hands, Asks, Arrives, all_moved, asks, ended, ended_given, ended_if, ended_link, ended_row, moved}
+use Rattle.device_lemmas.proofs.Emptied.{emptied_given}
+use Rattle.device_laws.specs.Moves.{Move, Opens, Wishes, Buffers, Offs, Accepts, Drops, Hands, Asks, Arrives, Takes, all_moved, asks, ended, ended_given, ended_if, ended_link, ended_row, moved}
 use Rattle.device_laws.specs.Requests.{NoneAborted, asked_in, is_asked}
 use Rattle.device_laws.proofs.Follows.{Change, Same, Went, Came, From, moved_follows}
 
@@ -159,6 +160,7 @@ moved_unasked dv (Drops id) none before = dropped_unasked dv id (row_at dv id) b
 moved_unasked dv (Hands d) none before = handed_link_unasked dv d (link_at dv d) before
 moved_unasked dv (Asks d) none before = absurd (cc none)
 moved_unasked dv (Arrives d how) none before = ended_link_unasked dv d how (link_at dv d) before
+moved_unasked dv Takes none before = λ d. ap asked_in (emptied_given dv d) ∙ before d
 
 changed_plain : (dv : Devices) (old row : Row) → NoneAborted dv → is_aborted old.life ≡ false → Change dv old row → is_aborted row.life ≡ false
 changed_plain dv old row before plain (Same is) = ap (λ (r : Row). is_aborted r.life) is ∙ plain

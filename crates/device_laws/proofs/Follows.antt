@@ -8,7 +8,8 @@ use Rattle.device_model.specs.Devices.Tables.{Given, Link, Row, Devices, is_queu
 use Rattle.device_model.specs.Units.Function.{Served}
 use Rattle.device_model.specs.Devices.Endings.{ended_at, is_allowed, served_of}
 use Rattle.device_model.specs.Devices.MoveProofs.{is_aborted}
-use Rattle.device_laws.specs.Moves.{Move, Opens, Wishes, Buffers, Offs, Accepts, Drops, Hands, Asks, Arrives, ended, ended_given, ended_if, ended_link, ended_row, moved}
+use Rattle.device_model.specs.Devices.Handing.{emptied}
+use Rattle.device_laws.specs.Moves.{Move, Opens, Wishes, Buffers, Offs, Accepts, Drops, Hands, Asks, Arrives, Takes, ended, ended_given, ended_if, ended_link, ended_row, moved}
 
 -- what stands in a slot after one was written is what was written, or stood there before
 pub slot_of : {A : Type 0} (xs : List (Option A)) (i j : ℕ) (y : Option A) (r : A) → entry (slice_set xs i y) j ≡ Some r → ((j ≡ i) × (y ≡ Some r)) ⊎ (entry xs j ≡ Some r)
@@ -205,7 +206,7 @@ ended_follows dv d how = ended_by_link dv d how (link_at dv d) refl
 
 -- what comes after any move
 pub moved_follows : (dv : Devices) (move : Move) → Follows dv (moved dv move)
-unfolding moved
+unfolding moved emptied
 moved_follows dv (Opens dd slot) = same_rows dv _ refl refl
 moved_follows dv (Wishes t wish) = same_rows dv _ refl refl
 moved_follows dv (Buffers d id) = same_rows dv _ refl refl
@@ -215,6 +216,7 @@ moved_follows dv (Drops id) = dropped_follows dv id
 moved_follows dv (Hands d) = handed_follows dv d
 moved_follows dv (Asks d) = asked_follows dv d
 moved_follows dv (Arrives d how) = ended_follows dv d how
+moved_follows dv Takes = same_rows dv _ refl refl
 
 -- what holds after each move holds after a list of them
 pub all_keep : (P : Devices → Type 0) → ((dv after : Devices) → Follows dv after → P dv → P after) → (moves : List Move) (dv : Devices) → P dv → P (fold moved dv moves)

@@ -4,8 +4,9 @@ use Rattle.std.specs.Prelude.{fold, if◌then◌else◌}
 use Rattle.tk_types.specs.declared.line.How.{How}
 use Rattle.device_model.specs.Devices.Tables.{Given, Link, Row, Devices, is_at_driver, link_at, row_at}
 use Rattle.device_model.specs.Devices.Endings.{ended_at, is_allowed, served_of}
+use Rattle.device_model.specs.Devices.Handing.{emptied}
 use Rattle.device_model.specs.Devices.MoveProofs.{IsMoveProof, IsArrivalProof}
-use Rattle.device_laws.specs.Moves.{Move, Opens, Wishes, Buffers, Offs, Accepts, Drops, Hands, Asks, Arrives, ended, ended_given, ended_if, ended_link, ended_row, moved, all_moved, Leads}
+use Rattle.device_laws.specs.Moves.{Move, Opens, Wishes, Buffers, Offs, Accepts, Drops, Hands, Asks, Arrives, Takes, ended, ended_given, ended_if, ended_link, ended_row, moved, all_moved, Leads}
 
 fold_more : (moves : List Move) (move : Move) (dv : Devices) → fold moved dv (moves ++ move ∷ []) ≡ moved (fold moved dv moves) move
 fold_more [] move dv = refl
@@ -52,3 +53,8 @@ unfolding moved
 arriving dv = record {
   arrives = λ now d link given row how linked has there away fit. one_more dv now _ (Arrives d how) (ended_is now d link given row how linked has there away fit);
 }
+
+-- messages that are taken are a move
+pub taking : (dv : Devices) → Leads dv (emptied dv)
+unfolding moved
+taking dv = one_more dv dv (emptied dv) Takes refl (no_moves dv)

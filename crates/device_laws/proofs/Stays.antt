@@ -10,7 +10,8 @@ use Rattle.device_model.specs.declared.rows.Life.TheVariants.{AtDriver, Ended}
 use Rattle.device_model.specs.Units.Function.{Served}
 use Rattle.device_model.specs.Devices.Tables.{Given, Link, Row, Devices, is_at_driver, link_at, row_at, accepted, accepted_in, asked, asked_given, asked_link, dropped, dropped_in, first_queued, handed, handed_first, handed_given, handed_link, handed_row, link_asked}
 use Rattle.device_model.specs.Devices.Endings.{ended_at, is_allowed, served_of}
-use Rattle.device_laws.specs.Moves.{Move, Opens, Wishes, Buffers, Offs, Accepts, Drops, Hands, Asks, Arrives, all_moved, ended, ended_given, ended_if, ended_link, ended_row, lets_go, moved}
+use Rattle.device_model.specs.Devices.Handing.{emptied}
+use Rattle.device_laws.specs.Moves.{Move, Opens, Wishes, Buffers, Offs, Accepts, Drops, Hands, Asks, Arrives, Takes, all_moved, ended, ended_given, ended_if, ended_link, ended_row, lets_go, moved}
 use Rattle.device_laws.specs.Requests.{IsThere}
 
 record StandsIn (xs : List (Option Row)) (id serial : ℕ) : Type 0 where
@@ -117,7 +118,7 @@ ended_by_link dv id serial d how None before = before
 ended_by_link dv id serial d how (Some link) before = ended_by_given dv id serial d link how link.given before
 
 moved_stays : (dv : Devices) (id serial : ℕ) (move : Move) → lets_go id move ≡ false → IsThere id serial dv → IsThere id serial (moved dv move)
-unfolding moved accepted dropped handed asked ended
+unfolding moved accepted dropped handed asked ended emptied
 moved_stays dv id serial (Opens dd slot) apart before = same_rows dv _ id serial refl before
 moved_stays dv id serial (Wishes t wish) apart before = same_rows dv _ id serial refl before
 moved_stays dv id serial (Buffers d other) apart before = same_rows dv _ id serial refl before
@@ -127,6 +128,7 @@ moved_stays dv id serial (Drops other) apart before = dropped_stays dv id serial
 moved_stays dv id serial (Hands d) apart before = handed_by_link dv id serial d (link_at dv d) before
 moved_stays dv id serial (Asks d) apart before = asked_by_link dv id serial d (link_at dv d) before
 moved_stays dv id serial (Arrives d how) apart before = ended_by_link dv id serial d how (link_at dv d) before
+moved_stays dv id serial Takes apart before = same_rows dv _ id serial refl before
 
 neither : (one other : Bool) → (one || other) ≡ false → (one ≡ false) × (other ≡ false)
 neither true other is = absurd (cc is)

@@ -12,7 +12,9 @@ use Rattle.device_model.specs.declared.rows.Life.TheVariants as life
 use Rattle.device_model.specs.Units.Function.{Served}
 use Rattle.device_model.specs.Devices.Tables.{Given, Link, Row, Devices, devices_start, given_in, link_start, first_queued, is_at_driver, is_queued, queues_on, link_at, row_at, accepted, accepted_in, asked, asked_given, asked_link, dropped, dropped_in, handed, handed_first, handed_given, handed_link, handed_row, link_asked, link_handed, request_of}
 use Rattle.device_model.specs.Devices.Endings.{ended_at, is_allowed, served_of}
-use Rattle.device_laws.specs.Moves.{Move, Opens, Wishes, Buffers, Offs, Accepts, Drops, Hands, Asks, Arrives, all_moved, ended, ended_given, ended_if, ended_link, ended_row, moved}
+use Rattle.device_model.specs.Devices.Handing.{emptied, link_emptied}
+use Rattle.device_lemmas.proofs.Emptied.{emptied_at}
+use Rattle.device_laws.specs.Moves.{Move, Opens, Wishes, Buffers, Offs, Accepts, Drops, Hands, Asks, Arrives, Takes, all_moved, ended, ended_given, ended_if, ended_link, ended_row, moved}
 use Rattle.device_laws.specs.Requests.{AreTied, IsAway}
 use Rattle.device_laws.proofs.Follows.{found}
 
@@ -203,6 +205,22 @@ ended_by_link : (dv : Devices) (d : ℕ) (how : How) → AreTied dv → (link : 
 ended_by_link dv d how before None linked = before
 ended_by_link dv d how before (Some link) linked = ended_by_given dv d link how linked before link.given refl
 
+-- ---- messages that are taken
+
+-- a link has what it had
+emptied_from : (slot : Option Link) (link : Link) (given : Given) → link_emptied slot ≡ Some link → link.given ≡ Some given → (old : Link) × (slot ≡ Some old) × (old.given ≡ Some given)
+emptied_from None link given linked has = absurd (cc linked)
+emptied_from (Some old) link given linked has = (old, refl, let same : record old { out = [] } ≡ link = cc linked in ap (λ (now : Link). now.given) same ∙ has)
+
+pub emptied_tied : (dv : Devices) → AreTied dv → AreTied (emptied dv)
+unfolding emptied
+emptied_tied dv before = record {
+  given = λ d link given linked has.
+      let old = emptied_from (link_at dv d) link given (sym (emptied_at dv d) ∙ linked) has in away_same dv (emptied dv) d given.request.id refl (before.given d old.0 given old.1 old.2);
+}
+
+-- ---- all moves
+
 moved_tied : (dv : Devices) (move : Move) → AreTied dv → AreTied (moved dv move)
 unfolding moved accepted dropped handed asked ended
 moved_tied dv (Opens dd slot) before = same_links dv _ refl refl before
@@ -214,6 +232,7 @@ moved_tied dv (Drops id) before = dropped_tied dv id (row_at dv id) refl before
 moved_tied dv (Hands d) before = handed_by_link dv d (link_at dv d) before
 moved_tied dv (Asks d) before = asked_by_link dv d before (link_at dv d) refl
 moved_tied dv (Arrives d how) before = ended_by_link dv d how before (link_at dv d) refl
+moved_tied dv Takes before = emptied_tied dv before
 
 pub stay_tied : (moves : List Move) (dv : Devices) → AreTied dv → AreTied (all_moved dv moves)
 unfolding all_moved

@@ -5,11 +5,12 @@ use Rattle.device_model.specs.declared.rows.Opened.{Opened}
 use Rattle.device_model.specs.declared.rows.Wish.{Wish}
 use Rattle.device_model.specs.Devices.Tables.{Given, Link, Row, Devices, is_at_driver, link_at, row_at, with_open, with_wish, with_buffer, with_off, accepted, dropped, handed, asked}
 use Rattle.device_model.specs.Devices.Endings.{DevParts, ended_at, is_allowed, served_of}
+use Rattle.device_model.specs.Devices.Handing.{emptied}
 use Rattle.device_model.specs.Devices.MoveProofs.{IsNew}
 
 -- a move: a descriptor is set, a task asks for something, a device has another event buffer, suspending is disabled so many
 -- times, a request is accepted, one is let go, the first that waits goes to a driver, a driver is asked to abort its request,
--- and the ending of that kind arrives from it
+-- the ending of that kind arrives from it, and the messages that wait for drivers are taken
 pub data Move : Type 0 where
   Opens : (dd : ℕ) (slot : Option Opened) → Move
   Wishes : (t : ℕ) (wish : Wish) → Move
@@ -20,6 +21,7 @@ pub data Move : Type 0 where
   Hands : (d : ℕ) → Move
   Asks : (d : ℕ) → Move
   Arrives : (d : ℕ) (how : How) → Move
+  Takes : Move
 
 abbrev pub ended_row : Devices → ℕ → Link → Given → How → Option Row → Devices
 ended_row dv d link given how None = dv
@@ -54,6 +56,7 @@ moved dv (Drops id) = dropped dv id
 moved dv (Hands d) = handed dv d
 moved dv (Asks d) = asked dv d
 moved dv (Arrives d how) = ended dv d how
+moved dv Takes = emptied dv
 
 -- the devices after a list of moves
 unfoldable pub all_moved : Devices → List Move → Devices

@@ -1,8 +1,9 @@
 -- Words that the laws of devices speak in.
-use Rattle.std.specs.Prelude.{◌≡◌, Bool, false, None}
+use Rattle.std.specs.Prelude.{◌≡◌, ℕ, Bool, false, Option, Some, None}
 use Rattle.std.specs.Int.{is_negative}
 use Rattle.tk_types.specs.declared.calls.DeviceCall.{DeviceCall}
 use Rattle.tk_types.specs.declared.calls.DeviceCall.TheVariants as call
+use Rattle.device_model.specs.declared.messages.Ending.{Ending}
 use Rattle.device_model.specs.Devices.Endings.{DevParts}
 use Rattle.device_model.specs.Devices.Servings.{serve_acceptances, serve_closes, serve_endings, serve_suspension}
 
@@ -18,3 +19,11 @@ pub record NobodyIsServed (p : DevParts) : Type 0 where
   pub endings : serve_endings p ≡ None
   pub closes : serve_closes p ≡ None
   pub suspension : serve_suspension p ≡ None
+
+-- an ending with another number of messages that were taken, and other room behind its bytes
+abbrev pub but_for : Ending → ℕ → ℕ → Ending
+but_for ending taken room = record ending { taken = taken; bytes = record ending.bytes { room = room } }
+
+-- it was expected, with no message taken, and with some room behind its bytes
+abbrev pub WasExpected : Ending → Option Ending → Type 0
+WasExpected ending is_expected = (room : ℕ) × (is_expected ≡ Some (but_for ending 0 room))

@@ -17,17 +17,17 @@ ghost use Rattle.kernel_model.specs.Words.Checks.{natural};
 ghost use Rattle.device_model.specs.declared.messages.Ending.{Ending};
 ghost use Rattle.device_model.specs.Devices.Tables.{Devices, Row, devices_start, has_ended, row_at};
 ghost use Rattle.device_model.specs.Devices.Endings.{DevParts, arrive, expected};
-ghost use Rattle.device_model.specs.Devices.Handing.{hand_over, hand_first};
+ghost use Rattle.device_model.specs.Devices.Handing.{emptied, hand_over, hand_first};
 ghost use Rattle.device_model.specs.Devices.Servings.{serve_acceptances, serve_endings, serve_closes, serve_suspension};
 ghost use Rattle.device_model.specs.Devices.Calls.{device_call};
 ghost use Rattle.device_model.specs.Devices.MoveProofs.{is_abort};
 ghost use Rattle.device_laws.specs.Claims.{HandsOut, Serves};
 ghost use Rattle.device_laws.specs.Moves.{Leads, LeadsIfAny, Move, all_moved, asks, lets_go};
 ghost use Rattle.device_laws.specs.Requests.{AreApart, IsGone, IsThere, AreTied, NoneAborted, StaysSo, is_asked};
-ghost use Rattle.device_laws.specs.Words.{NobodyIsServed, may_answer_for_buffer};
+ghost use Rattle.device_laws.specs.Words.{NobodyIsServed, WasExpected, but_for, may_answer_for_buffer};
 
-/// All that is done to devices is a list of nine moves, each of which changes nothing where it can't be done: by every call,
-/// each kind of serving, when requests go to drivers, and when an ending arrives.
+/// All that is done to devices is a list of ten moves, each of which changes nothing where it can't be done: by every call,
+/// each kind of serving, when requests go to drivers, when an ending arrives, and when messages to drivers are taken.
 pub fn all_is_made_of_moves()
     ensures calls { (p : DevParts) (who : Who) (c : DeviceCall) → Leads p.table (device_call p who c).parts.table }
     ensures acceptances { (p : DevParts) → LeadsIfAny p.table (serve_acceptances p) }
@@ -37,6 +37,7 @@ pub fn all_is_made_of_moves()
     ensures handing { (b : Base) (dv : Devices) → Leads dv (hand_over b dv) }
     ensures first { (dv : Devices) → Leads dv (hand_first dv) }
     ensures arrivals { (p : DevParts) (ending : Ending) → LeadsIfAny p.table (arrive p ending) }
+    ensures taking { (dv : Devices) → Leads dv (emptied dv) }
 {}
 
 /// A call that answers an error has changed nothing. A call that stays for its own request may answer the error with which a
@@ -88,14 +89,14 @@ pub fn handing_over_leaves_nobody_to_serve()
     ensures sync { (p : DevParts) → NobodyIsServed p → NobodyIsServed (record p { table = hand_first p.table }) }
 {}
 
-/// An ending that arrives is the one that is expected of its kind, but for the number of messages that were taken; and what is
-/// expected arrives, whatever that number is, where drivers and table agree. They do so from the start and after every list of
-/// moves: what was given to a driver is with it by the table of requests.
+/// An ending that arrives is the one that is expected of its kind, but for the number of messages that were taken and for how much
+/// room there is behind its bytes; and what is expected arrives, whatever these two are, where drivers and table agree. They do so
+/// from the start and after every list of moves: what was given to a driver is with it by the table of requests.
 pub fn an_ending_arrives_where_it_is_expected()
     ensures arrived { (p after : DevParts) (ending : Ending) → arrive p ending ≡ Some after →
-        expected p.table ending.device ending.how ≡ Some (record ending { taken = 0 }) }
-    ensures arrives { (p : DevParts) (d : ℕ) (how : How) (ending : Ending) (taken : ℕ) → AreTied p.table →
-        expected p.table d how ≡ Some ending → is_some (arrive p (record ending { taken = taken })) ≡ true }
+        WasExpected ending (expected p.table ending.device ending.how) }
+    ensures arrives { (p : DevParts) (d : ℕ) (how : How) (ending : Ending) (taken room : ℕ) → AreTied p.table →
+        expected p.table d how ≡ Some ending → is_some (arrive p (but_for ending taken room)) ≡ true }
     ensures tied { (dv : Devices) (moves : List Move) → AreTied dv → AreTied (all_moved dv moves) }
     ensures start { (script : Script) (moves : List Move) → AreTied (all_moved (devices_start script) moves) }
 {}

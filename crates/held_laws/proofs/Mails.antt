@@ -92,6 +92,7 @@ mails_kept P keeps = record {
   served = λ p q few is has. record { mails = served_has P keeps p has.mails q is; slots = slots_are_kept.served p q few is has.slots };
   handed = λ mode p has. record { mails = handed_has P mode p has.mails; slots = slots_are_kept.handed mode p has.slots };
   handed_first = λ p has. record { mails = has.mails; slots = slots_are_kept.handed_first p has.slots };
+  messages = λ p has. record { mails = has.mails; slots = slots_are_kept.messages p has.slots };
   arrived = λ p e q is has. record { mails = subst P (sym (arrive_mails (dev_parts p) q e is)) has.mails; slots = slots_are_kept.arrived p e q is has.slots };
   released = λ p t answer has. record { mails = has.mails; slots = slots_are_kept.released p t answer has.slots };
   again = λ p what has. record { mails = has.mails; slots = slots_are_kept.again p what has.slots };

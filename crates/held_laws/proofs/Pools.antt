@@ -184,6 +184,7 @@ pools_are_kept = record {
   served = λ p q few is has. record { asked = asks_are_kept.served p q few is has.asked; table = after_serving p q is has };
   handed = λ mode p has. record { asked = asks_are_kept.handed mode p has.asked; table = handed_table mode p has.table };
   handed_first = λ p has. record { asked = asks_are_kept.handed_first p has.asked; table = has.table };
+  messages = λ p has. record { asked = asks_are_kept.messages p has.asked; table = has.table };
   arrived = λ p e q is has. record { asked = asks_are_kept.arrived p e q is has.asked; table = has.table };
   released = λ p t answer has. record { asked = asks_are_kept.released p t answer has.asked; table = has.table };
   again = λ p what has. record { asked = asks_are_kept.again p what has.asked; table = has.table };

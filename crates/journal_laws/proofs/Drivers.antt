@@ -18,16 +18,16 @@ use Rattle.device_lemmas.proofs.Walk as devices
 use Rattle.device_laws.specs.Moves.{Leads}
 use Rattle.device_laws.specs.Requests.{AreTied}
 use Rattle.device_laws.proofs.Leading.{arriving, leading, no_moves}
-use Rattle.device_laws.proofs.Ties.{stay_tied, tied_at_first}
+use Rattle.device_laws.proofs.Ties.{emptied_tied, stay_tied, tied_at_first}
 use Rattle.machine_model.specs.States.Objects.{Parts, dev_parts, first_serving, mail_parts, pool_parts, serve_object, with_devices, with_mails, with_mutexes, with_pools, with_sem_flags}
 use Rattle.machine_model.specs.States.State.{parts_of, state_start}
 use Rattle.machine_model.specs.Events.Settle.{handed}
 use Rattle.machine_lemmas.proofs.BaseKept.{start_slots}
-use Rattle.machine_lemmas.proofs.FewDevices.{few_arrivals, few_moves}
+use Rattle.machine_lemmas.proofs.FewDevices.{emptied_few, few_arrivals, few_moves}
 use Rattle.machine_lemmas.proofs.Servings.{FewDevices}
 use Rattle.machine_lemmas.proofs.Settling.{few_handed, few_served}
 use Rattle.machine_lemmas.proofs.Walk.{IsKept}
-use Rattle.journal_laws.proofs.Linked.{AreLinked, KeptLinked, acceptances_linked, arrives_linked, calls_linked, closes_linked, endings_linked, hand_first_linked, hand_over_linked, start_linked}
+use Rattle.journal_laws.proofs.Linked.{AreLinked, KeptLinked, acceptances_linked, arrives_linked, calls_linked, closes_linked, emptied_linked, endings_linked, hand_first_linked, hand_over_linked, start_linked}
 
 pub record AreFit (dv : Devices) : Type 0 where
   pub linked : AreLinked dv
@@ -135,6 +135,10 @@ drivers_are_kept = record {
       linked = hand_first_linked p.objects.devices has.fit.linked;
       tied = led p.objects.devices _ (devices.hand_first_keeps (Leads p.objects.devices) (leading p.objects.devices) p.objects.devices (no_moves p.objects.devices)) has.fit.tied;
     };
+  };
+  messages = λ p has. record {
+    few = emptied_few p.objects.devices has.few;
+    fit = record { linked = emptied_linked p.objects.devices has.fit.linked; tied = emptied_tied p.objects.devices has.fit.tied };
   };
   arrived = λ p e q is has. record {
     few = arrived_there (λ dv. length dv.links ≤ 9) q (arrive (dev_parts p) e) is (devices.arrival_keeps (λ dv. length dv.links ≤ 9) few_moves few_arrivals (dev_parts p) e has.few);

@@ -10,7 +10,7 @@ use Rattle.tk_types.specs.declared.run.End.TheVariants as ends
 use Rattle.tk_types.specs.declared.run.Mode.{Mode}
 use Rattle.tk_types.specs.declared.run.Mode.TheVariants as modes
 use Rattle.tk_types.specs.declared.script.Script.{Script}
-use Rattle.machine_model.specs.States.State.{State}
+use Rattle.machine_model.specs.States.State.{State, taken}
 use Rattle.machine_model.specs.Events.Follow.{Event}
 use Rattle.machine_model.specs.Runs.Step.{Ends, Needs, Pace, Went, step}
 use Rattle.machine_model.specs.Runs.Trace.{Rest, Trace, after, entered, free_pace, free_turn, is_next_by, last_line, over_with, run_entered, run_turn, run_went, runs, start, sync_pace, trace, without_ending}
@@ -44,7 +44,7 @@ idle_is k (entry ∷ later) is = absurd (cc is)
 went_comes : (budget : ℕ) (st : State) (k : ℕ) (entries : List Entry) (event : Event) (end : Option End) → st.steps < budget → IsStepped budget st event end → Comes budget (λ next. run_went next k entries event end) st entries
 went_comes budget st k entries event None below is =
     let steps = is.steps in
-    GoesOn event.lines event.state k entries (λ next. refl) (is.goes refl below) (omega (arith, steps))
+    GoesOn event.lines (taken event.state) k entries (λ next. refl) (is.goes refl below) (omega (arith, steps))
 went_comes budget st k entries event (Some end) below is =
     Over (after event.lines (over_with event.state (last_line end k entries))) (λ next. refl) (λ last. is.reaches (ap (λ (e : End). Some e) (last_is end k entries last)))
 
@@ -54,7 +54,7 @@ entered_comes : (budget : ℕ) (st now : State) (k : ℕ) (entry : Entry) (later
 entered_comes budget st now k entry later None below same fed = Over (over_with now (lasts.Unfit k)) (λ next. refl) (λ last. absurd (cc last))
 entered_comes budget st now k entry later (Some event) below same fed =
     let steps = fed event refl in
-    GoesOn event.lines event.state (k + 1) later (λ next. refl) (omega (arith, steps, same, below)) (omega (arith, steps, same))
+    GoesOn event.lines (taken event.state) (k + 1) later (λ next. refl) (omega (arith, steps, same, below)) (omega (arith, steps, same))
 
 free_comes : (script : Script) (budget : ℕ) (st : State) (k : ℕ) (entries : List Entry) (pace : Pace) → step script modes.Free budget st ≡ pace → st.steps < budget → Comes budget (λ next. free_pace next st k entries pace) st entries
 free_comes script budget st k entries (Went event end) is below = went_comes budget st k entries event end below (step_went script modes.Free budget st event end is)
@@ -79,7 +79,7 @@ sync_comes script budget st k entries (Went event end) is below =
     (went_comes budget st k entries event end below (step_went script modes.Sync budget st event end is))
 sync_comes script budget st k [] (Needs waiting) is below = Over (over_with waiting lasts.Starved) (λ next. refl) (λ last. absurd (cc last))
 sync_comes script budget st k (entry ∷ later) (Needs waiting) is below =
-    entered_comes budget st waiting k entry later (entered script modes.Sync waiting entry) below (step_needs script modes.Sync budget st waiting is).steps (λ event at. (entered_fed script modes.Sync waiting entry event at).steps)
+    entered_comes budget st waiting k entry later (entered script modes.Sync (taken waiting) entry) below (step_needs script modes.Sync budget st waiting is).steps (λ event at. (entered_fed script modes.Sync (taken waiting) entry event at).steps)
 sync_comes script budget st k entries Ends is below = Over (over_with st (last_line ends.Idle k entries)) (λ next. refl) (λ last. absurd (idle_is k entries last))
 
 turn_comes : (script : Script) (mode : Mode) (budget : ℕ) (st : State) (k : ℕ) (entries : List Entry) → st.steps < budget → Comes budget (λ next. run_turn next script mode budget st k entries) st entries

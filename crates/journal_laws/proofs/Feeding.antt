@@ -23,7 +23,7 @@ use Rattle.device_model.specs.declared.messages.Ending.{Ending}
 use Rattle.device_model.specs.Devices.Endings.{DevParts, arrive, expected, expected_given, expected_link}
 use Rattle.device_model.specs.Devices.Tables.{Devices, Given, Link, link_at}
 use Rattle.machine_model.specs.States.Objects.{dev_parts, with_devices}
-use Rattle.machine_model.specs.States.State.{State, parts_of, state_start, with_parts}
+use Rattle.machine_model.specs.States.State.{State, parts_of, state_start, taken, with_parts}
 use Rattle.machine_model.specs.Events.Follow.{Event, followed}
 use Rattle.machine_model.specs.Events.Arrivals.{after_arrival, arrived, ending_line, shown_ending}
 use Rattle.machine_model.specs.Runs.Step.{Ends, Needs, Pace, Went, any_unfinished, counted, ended_or_went, has_event, is_quiet, needed, needed_or, step, step_if}
@@ -189,10 +189,10 @@ Feeds next = (st : State) (k : ℕ) (entries : List Entry) → IsFed entries (ne
 
 entered_fed : (next : Rest) (st : State) (k : ℕ) (entry : Entry) (later : List Entry) (some : Option Event) → Feeds next → Enters entry some → IsFed (entry ∷ later) (run_entered next st k later some)
 entered_fed next st k entry later None feeds enters = fed_over st (lasts.Unfit k) (entry ∷ later) (unfit_says k (entry ∷ later))
-entered_fed next st k entry later (Some event) feeds enters = fed_entered event.lines entry later (next event.state (k + 1) later) (enters event refl) (feeds event.state (k + 1) later)
+entered_fed next st k entry later (Some event) feeds enters = fed_entered event.lines entry later (next (taken event.state) (k + 1) later) (enters event refl) (feeds (taken event.state) (k + 1) later)
 
 went_fed : (next : Rest) (k : ℕ) (entries : List Entry) (event : Event) (over : Option End) → Feeds next → IsQuiet event.lines → IsFed entries (run_went next k entries event over)
-went_fed next k entries event None feeds quiet = fed_after event.lines entries (next event.state k entries) quiet (feeds event.state k entries)
+went_fed next k entries event None feeds quiet = fed_after event.lines entries (next (taken event.state) k entries) quiet (feeds (taken event.state) k entries)
 went_fed next k entries event (Some end) feeds quiet = fed_after event.lines entries (over_with event.state (last_line end k entries)) quiet (fed_over event.state (last_line end k entries) entries (last_says end k entries))
 
 free_fed : (next : Rest) (st : State) (k : ℕ) (entries : List Entry) (pace : Pace) → Feeds next → DoesQuietly pace → IsFed entries (free_pace next st k entries pace)
@@ -217,7 +217,7 @@ sync_fed next script st k entries (Went event over) feeds quiet =
     (fed_over st (lasts.Unfit k) entries (unfit_says k entries)) (went_fed next k entries event over feeds quiet)
 sync_fed next script st k [] (Needs waiting) feeds quiet = fed_over waiting lasts.Starved [] (λ whole. refl)
 sync_fed next script st k (entry ∷ later) (Needs waiting) feeds quiet =
-    entered_fed next waiting k entry later (entered script modes.Sync waiting entry) feeds (entered_enters script modes.Sync waiting entry)
+    entered_fed next waiting k entry later (entered script modes.Sync (taken waiting) entry) feeds (entered_enters script modes.Sync (taken waiting) entry)
 sync_fed next script st k entries Ends feeds quiet = fed_over st (last_line ends.Idle k entries) entries (last_says ends.Idle k entries)
 
 turn_fed : (next : Rest) (script : Script) (mode : Mode) (budget : ℕ) (st : State) (k : ℕ) (entries : List Entry) → Feeds next → IsFed entries (run_turn next script mode budget st k entries)

@@ -42,6 +42,7 @@ use Rattle.device_model.specs.Devices.Requests as requests
 use Rattle.device_model.specs.Devices.Servings as servings
 use Rattle.device_model.specs.Devices.Calls as calls
 use Rattle.device_model.specs.Devices.Calls.{DevDone}
+use Rattle.device_lemmas.proofs.Emptied.{emptied_at, emptied_there}
 use Rattle.device_lemmas.proofs.Walk.{events_table}
 
 -- ---- what is linked
@@ -577,3 +578,16 @@ no_rows_linked links (suc n) (suc i) = no_rows_linked links n i
 pub start_linked : (script : Script) → AreLinked (devices_start script)
 unfolding devices_start
 start_linked script = record { none = refl; opened = none_opened (devices_start script).links 33; rows = no_rows_linked (devices_start script).links 65; queued = λ id stands. absurd (omega (arith, stands)) }
+
+-- ---- messages that are taken
+
+pub emptied_linked : (dv : Devices) → AreLinked dv → AreLinked (handing.emptied dv)
+unfolding handing.emptied
+emptied_linked dv is =
+    let still : Still dv.links (handing.emptied dv).links = λ d has. emptied_there dv d ∙ has in
+    record {
+      none = emptied_at dv 0 ∙ ap handing.link_emptied is.none;
+      opened = λ dd. open_still dv.links (handing.emptied dv).links (opened_at dv dd) still (is.opened dd);
+      rows = λ id. row_still dv.links (handing.emptied dv).links (row_at dv id) (row_at dv id) still (from_itself (row_at dv id)) (is.rows id);
+      queued = is.queued;
+    }

@@ -14,9 +14,10 @@ use Rattle.kernel_model.specs.Bodies.Statements.{IsRunnable}
 use Rattle.device_model.specs.declared.messages.Ending.{Ending}
 use Rattle.device_model.specs.Devices.Endings.{DevParts, arrive, expected}
 use Rattle.device_model.specs.Devices.Handing.{any_given, any_queued}
+use Rattle.device_lemmas.proofs.Emptied.{emptied_any}
 use Rattle.device_laws.proofs.Fits.{expected_arrives}
 use Rattle.machine_model.specs.States.Objects.{dev_parts, with_devices}
-use Rattle.machine_model.specs.States.State.{State, parts_of, with_parts}
+use Rattle.machine_model.specs.States.State.{State, parts_of, taken, with_parts}
 use Rattle.machine_model.specs.Events.Follow.{Event}
 use Rattle.machine_model.specs.Events.Arrivals.{after_arrival, arrived}
 use Rattle.machine_model.specs.Runs.Step.{Ends, Needs, Pace, Went, any_unfinished, counted, ended_or_went, handed_if, has_event, is_quiet, needed, needed_or, needed_sync, step, step_if, with_first_handed}
@@ -68,6 +69,10 @@ step_given : (script : Script) (budget : ℕ) (st now : State) → HasDrivers (p
 unfolding step
 step_given script budget st now has at = quiet_given (is_quiet st) script budget st now has at
 
+-- it has one yet where messages are taken
+taken_given : (st : State) → IsGiven st → IsGiven (taken st)
+taken_given st is = record { drivers = drivers_are_kept.messages (parts_of st) is.drivers; given = emptied_any st.objects.devices ∙ is.given }
+
 -- it arrives, and its entry is fit
 record Comes (script : Script) (st : State) : Type 0 where
   ending : Ending
@@ -101,7 +106,7 @@ given_comes script st is =
     let dv = st.objects.devices in
     let needs = given_needed dv is.drivers.fit.linked is.given in
     let e : Ending = needs.0 in
-    let there = some_parts (arrive (dev_parts (parts_of st)) e) (expected_arrives (dev_parts (parts_of st)) (first_given dv) hows.Done e e.taken is.drivers.fit.tied needs.1) in
+    let there = some_parts (arrive (dev_parts (parts_of st)) e) (expected_arrives (dev_parts (parts_of st)) (first_given dv) hows.Done e e.taken e.bytes.room is.drivers.fit.tied needs.1) in
     let comes = arrived_is script st e there.0 there.1 in
     let device : e.device ≡ first_given dv = (expected_named dv (first_given dv) hows.Done e needs.1).0 in
     let before : State = with_parts st (with_devices (parts_of st) there.0) in
@@ -143,29 +148,29 @@ later_places : (n m : ℕ) (entries : List Entry) → n ≤ m → NotBefore m en
 later_places n m [] less late = tt
 later_places n m (entry ∷ later) less late = omega (arith, less, late)
 
-went_drivers : (script : Script) (budget : ℕ) (st : State) (event : Event) (over : Option End) → HasDrivers (parts_of st) → step script modes.Sync budget st ≡ Went event over → HasDrivers (parts_of event.state)
+went_drivers : (script : Script) (budget : ℕ) (st : State) (event : Event) (over : Option End) → HasDrivers (parts_of st) → step script modes.Sync budget st ≡ Went event over → HasDrivers (parts_of (taken event.state))
 went_drivers script budget st event over has is =
     subst (λ (pace : Pace). HasDrivers (parts_of (after_pace st pace))) is
     (step_has HasDrivers (of_kept HasDrivers drivers_are_kept) script modes.Sync budget st has (kept_worked HasDrivers (of_kept HasDrivers drivers_are_kept) script modes.Sync (st.steps + 1) st has))
 
-needs_turn : (script : Script) (budget turns : ℕ) (st waiting : State) → waiting.steps ≡ st.steps → (comes : Comes script waiting) → IsOwn script budget turns comes.event.state (sync_runs turns script budget comes.event.state) →
+needs_turn : (script : Script) (budget turns : ℕ) (st waiting : State) → waiting.steps ≡ st.steps → (comes : Comes script (taken waiting)) → IsOwn script budget turns (taken comes.event.state) (sync_runs turns script budget (taken comes.event.state)) →
     IsTurn script budget turns st (Needs waiting) (sync_turn (λ now. sync_runs turns script budget now) script st (Needs waiting))
 needs_turn script budget turns st waiting steps comes rest =
     let next : State → SyncRun = λ now. sync_runs turns script budget now in
-    let made : sync_turn next script st (Needs waiting) ≡ with_entry (entry_of (waiting.steps + 1) comes.ending) (sync_after comes.event.lines (next comes.event.state)) =
-    ap (sync_ending next script waiting) comes.needs ∙ ap (sync_arrived next waiting comes.ending) comes.arrives in
+    let made : sync_turn next script st (Needs waiting) ≡ with_entry (entry_of (waiting.steps + 1) comes.ending) (sync_after comes.event.lines (next (taken comes.event.state))) =
+    ap (sync_ending next script (taken waiting)) comes.needs ∙ ap (sync_arrived next (taken waiting) comes.ending) comes.arrives in
     subst (IsTurn script budget turns st (Needs waiting)) (sym made) (record {
       same = λ k.
           ap (after comes.event.lines) (rest.same (k + 1))
-          ∙ ap (run_entered (λ now j later. runs turns script modes.Sync budget now j later) waiting k (next comes.event.state).entries) (sym comes.enters);
+          ∙ ap (run_entered (λ now j later. runs turns script modes.Sync budget now j later) waiting k (next (taken comes.event.state)).entries) (sym comes.enters);
       late = omega (arith, steps);
     })
 
 turn_own : (script : Script) (budget turns : ℕ) (st : State) (pace : Pace) → step script modes.Sync budget st ≡ pace → HasDrivers (parts_of st) →
     ((now : State) → HasDrivers (parts_of now) → IsOwn script budget turns now (sync_runs turns script budget now)) → IsTurn script budget turns st pace (sync_turn (λ now. sync_runs turns script budget now) script st pace)
 turn_own script budget turns st (Went event None) is has rest =
-    let own = rest event.state (went_drivers script budget st event None has is) in
-    let entries : List Entry = (sync_runs turns script budget event.state).entries in
+    let own = rest (taken event.state) (went_drivers script budget st event None has is) in
+    let entries : List Entry = (sync_runs turns script budget (taken event.state)).entries in
     let steps = (step_went script modes.Sync budget st event None is).steps in
     let none : is_next_by (st.steps + 1) entries ≡ false = not_next (st.steps + 1) (event.state.steps + 1) entries (omega (arith, steps)) own.late in
     record {
@@ -176,8 +181,9 @@ turn_own script budget turns st (Went event None) is has rest =
     }
 turn_own script budget turns st (Went event (Some end)) is has rest = record { same = λ k. refl; late = tt }
 turn_own script budget turns st (Needs waiting) is has rest =
-    let comes = given_comes script waiting (step_given script budget st waiting has is) in
-    needs_turn script budget turns st waiting (step_needs script modes.Sync budget st waiting is).steps comes (rest comes.event.state comes.drivers)
+    let comes = given_comes script (taken waiting) (taken_given waiting (step_given script budget st waiting has is)) in
+    needs_turn script budget turns st waiting (step_needs script modes.Sync budget st waiting is).steps comes
+    (rest (taken comes.event.state) (drivers_are_kept.messages (parts_of comes.event.state) comes.drivers))
 turn_own script budget turns st Ends is has rest = record { same = λ k. refl; late = tt }
 
 runs_own : (script : Script) (budget turns : ℕ) (st : State) → HasDrivers (parts_of st) → IsOwn script budget turns st (sync_runs turns script budget st)

@@ -10,8 +10,9 @@ use Rattle.tk_types.specs.declared.script.Script.{Script}
 use Rattle.tk_types.specs.declared.task.Task.{Task}
 use Rattle.device_model.specs.declared.messages.Ending.{Ending}
 use Rattle.device_model.specs.declared.rows.Wish.TheVariants.{Nothing}
+use Rattle.device_model.specs.Devices.Handing.{emptied}
 use Rattle.device_model.specs.Devices.Tables.{Row, devices_start}
-use Rattle.machine_model.specs.States.State.{State, parts_of, state_start}
+use Rattle.machine_model.specs.States.State.{State, parts_of, state_start, taken}
 use Rattle.machine_model.specs.Events.Follow.{Event}
 use Rattle.machine_model.specs.Events.Arrivals.{arrived}
 use Rattle.machine_model.specs.Runs.Step.{Ends, Needs, Pace, Went, step}
@@ -27,6 +28,11 @@ use Rattle.journal_laws.proofs.Paces.{IsFed, IsStepped, arrived_fed, step_needs,
 -- how many endings may still come in a state
 abbrev due : State → ℕ
 due st = owed st.base st.objects.devices
+
+-- as many where messages are taken
+taken_due : (st : State) → due (taken st) ≡ due st
+unfolding emptied
+taken_due st = refl
 
 -- ---- one turn
 
@@ -51,7 +57,8 @@ went_comes : (script : Script) (budget : ℕ) (st : State) (event : Event) (end 
 went_comes script budget st event None below is =
     let steps = is.steps in
     let owes = is.owes in
-    GoesOn (sync_after event.lines) event.state (λ next. refl) (is.goes refl below) (omega (arith, steps, owes)) (λ rest reaches. reaches) (λ rest few. omega (arith, steps, owes, few))
+    let same = taken_due event.state in
+    GoesOn (sync_after event.lines) (taken event.state) (λ next. refl) (is.goes refl below) (omega (arith, steps, owes, same)) (λ rest reaches. reaches) (λ rest few. omega (arith, steps, owes, same, few))
 went_comes script budget st event (Some end) below is =
     let steps = is.steps in
     Over (sync_after event.lines (sync_over event.state end)) (λ next. refl) (λ last. is.reaches (ap (λ (e : End). Some e) (last_is end last))) (omega (arith, steps))
@@ -64,8 +71,9 @@ arrived_comes script budget st now e (Some event) below same owes fed =
     let is = fed event refl in
     let steps = is.steps in
     let less = is.owes in
-    GoesOn (λ rest. with_entry (entry_of (now.steps + 1) e) (sync_after event.lines rest)) event.state (λ next. refl) (omega (arith, steps, same, below)) (omega (arith, steps, same, less, owes)) (λ rest reaches. reaches)
-    (λ rest few. omega (arith, steps, same, less, owes, few))
+    let as_many = taken_due event.state in
+    GoesOn (λ rest. with_entry (entry_of (now.steps + 1) e) (sync_after event.lines rest)) (taken event.state) (λ next. refl) (omega (arith, steps, same, below)) (omega (arith, steps, same, less, owes, as_many))
+    (λ rest reaches. reaches) (λ rest few. omega (arith, steps, same, less, owes, as_many, few))
 
 ending_comes : (script : Script) (budget : ℕ) (st now : State) (some : Option Ending) → st.steps < budget → now.steps ≡ st.steps → due now ≤ due st → Comes budget (λ next. sync_ending next script now some) st
 ending_comes script budget st now None below same owes = Over (sync_over now ends.Idle) (λ next. refl) (λ last. absurd (cc last)) (omega (arith, same))
@@ -75,7 +83,10 @@ ending_comes script budget st now (Some e) below same owes =
 pace_comes : (script : Script) (budget : ℕ) (st : State) (pace : Pace) → step script modes.Sync budget st ≡ pace → st.steps < budget → Comes budget (λ next. sync_turn next script st pace) st
 pace_comes script budget st (Went event end) is below = went_comes script budget st event end below (step_went script modes.Sync budget st event end is)
 pace_comes script budget st (Needs waiting) is below =
-    let waits = step_needs script modes.Sync budget st waiting is in ending_comes script budget st waiting (needed_ending waiting) below waits.steps waits.owes
+    let waits = step_needs script modes.Sync budget st waiting is in
+    let owes = waits.owes in
+    let same = taken_due waiting in
+    ending_comes script budget st (taken waiting) (needed_ending (taken waiting)) below waits.steps (omega (arith, owes, same))
 pace_comes script budget st Ends is below = Over (sync_over st ends.Idle) (λ next. refl) (λ last. absurd (cc last)) (omega arith)
 
 -- ---- all turns

@@ -23,7 +23,7 @@ use Rattle.call_walk.proofs.Slots.{slots_kept}
 use Rattle.call_walk.proofs.TaskCalls.{task_calls_keep}
 use Rattle.call_walk.proofs.TimeCalls.{again_keeps, time_calls_keep}
 use Rattle.machine_lemmas.proofs.Changes.{Survives}
-use Rattle.machine_lemmas.proofs.FewDevices.{few_arrivals, few_moves}
+use Rattle.machine_lemmas.proofs.FewDevices.{emptied_few, few_arrivals, few_moves}
 use Rattle.machine_lemmas.proofs.KnownDevices.{IsWished}
 use Rattle.machine_lemmas.proofs.Servings.{FewDevices, serving}
 use Rattle.machine_lemmas.proofs.Settling.{few_handed, few_served}
@@ -71,6 +71,7 @@ base_kept P moves = record {
   served = λ p q few is has. record { base = (serving p q few is).ends.keeps P (survives P (still P moves) (IsWished p.objects.devices)) has.base; few = few_served p q few is };
   handed = has_handed P;
   handed_first = λ p has. record { base = has.base; few = devices.hand_first_keeps (λ dv. length dv.links ≤ 9) few_moves p.objects.devices has.few };
+  messages = λ p has. record { base = has.base; few = emptied_few p.objects.devices has.few };
   arrived = λ p e q is has. record {
     base = arrive_keeps P (dev_parts p) e q is has.base;
     few = few_arrived p e q (arrive (dev_parts p) e) is (devices.arrival_keeps (λ dv. length dv.links ≤ 9) few_moves few_arrivals (dev_parts p) e has.few);

@@ -90,6 +90,7 @@ contexts_kept Q keeps = record {
   served = λ p q few is has. record { contexts = subst Q (sym (served_same p q is)) has.contexts; slots = slots_are_kept.served p q few is has.slots };
   handed = λ mode p has. record { contexts = handed_has Q mode p has.contexts; slots = slots_are_kept.handed mode p has.slots };
   handed_first = λ p has. record { contexts = has.contexts; slots = slots_are_kept.handed_first p has.slots };
+  messages = λ p has. record { contexts = has.contexts; slots = slots_are_kept.messages p has.slots };
   arrived = λ p e q is has. record { contexts = has.contexts; slots = slots_are_kept.arrived p e q is has.slots };
   released = λ p t answer has. record { contexts = has.contexts; slots = slots_are_kept.released p t answer has.slots };
   again = λ p what has. record { contexts = has.contexts; slots = slots_are_kept.again p what has.slots };

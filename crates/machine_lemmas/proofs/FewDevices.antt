@@ -3,7 +3,9 @@ use Rattle.std.proofs.Common.{◌≡◌, ℕ, ◌≤◌, length, Bool, true, fal
 use Rattle.std.specs.Prelude.{slice_set}
 use Rattle.device_model.specs.Devices.Tables.{Devices, Given, Link, accepted, asked, asked_given, asked_link, link_asked, dropped, handed, link_at}
 use Rattle.device_model.specs.Devices.Endings.{ended_at, served_of}
+use Rattle.device_model.specs.Devices.Handing.{emptied}
 use Rattle.device_model.specs.Devices.MoveProofs.{IsMoveProof, IsArrivalProof}
+use Rattle.device_lemmas.proofs.Emptied.{emptied_many}
 use Rattle.machine_lemmas.proofs.DeviceServings.{accepted_links, dropped_links}
 use Rattle.machine_lemmas.proofs.Handing.{handed_many, set_length}
 
@@ -45,3 +47,7 @@ pub few_arrivals : IsArrivalProof AreFew
 few_arrivals = record {
   arrives = λ now d link given row how linked has there away fit few. few_same now (ended_at now d link given.request.id row (served_of link.kind link.store given.request how)) (set_length now.links d _) few;
 }
+
+-- and messages that are taken leave as many
+pub emptied_few : (dv : Devices) → AreFew dv → AreFew (emptied dv)
+emptied_few dv few = few_same dv (emptied dv) (emptied_many dv) few

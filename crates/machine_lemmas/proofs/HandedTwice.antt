@@ -16,7 +16,7 @@ use Rattle.kernel_lemmas.proofs.Tables.{entry_each, entry_same, entry_there}
 use Rattle.machine_lemmas.proofs.HandingServes.{found_passes, hand_over_ready}
 
 -- no request can go to the driver of a device: there is no such device, it has one, or none waits for it
-data Stays (dv : Devices) (d : ℕ) : Type 0 where
+pub data Stays (dv : Devices) (d : ℕ) : Type 0 where
   absent : link_at dv d ≡ None → Stays dv d
   busy : (link : Link) (given : Given) → link_at dv d ≡ Some link → link.given ≡ Some given → Stays dv d
   empty : first_queued dv d ≡ None → Stays dv d
@@ -112,7 +112,8 @@ handed_others dv d e stays = link_others dv d e (link_at dv d) refl stays
 
 -- ---- all devices
 
-AllStay : Devices → List ℕ → Type 0
+-- so it is for each of these
+unfoldable pub AllStay : Devices → List ℕ → Type 0
 AllStay dv [] = Unit {0}
 AllStay dv (d ∷ ids) = Stays dv d × AllStay dv ids
 
@@ -125,12 +126,14 @@ stays_through : (ids : List ℕ) (dv : Devices) (e : ℕ) → Stays dv e → Sta
 stays_through [] dv e stays = stays
 stays_through (d ∷ ids) dv e stays = stays_through ids (handed dv d) e (handed_others dv d e stays)
 
-all_stay : (ids : List ℕ) (dv : Devices) → AllStay (handed_all ids dv) ids
+-- once requests have gone to the drivers of these none can go
+pub all_stay : (ids : List ℕ) (dv : Devices) → AllStay (handed_all ids dv) ids
 unfolding AllStay
 all_stay [] dv = tt
 all_stay (d ∷ ids) dv = (stays_through ids (handed dv d) d (handed_stays dv d), all_stay ids (handed dv d))
 
-all_same : (ids : List ℕ) (dv : Devices) → AllStay dv ids → handed_all ids dv ≡ dv
+-- where none can go nothing changes
+pub all_same : (ids : List ℕ) (dv : Devices) → AllStay dv ids → handed_all ids dv ≡ dv
 unfolding AllStay
 all_same [] dv all = refl
 all_same (d ∷ ids) dv all = let same = stays_same dv d all.0 in ap (handed_all ids) same ∙ all_same ids dv all.1

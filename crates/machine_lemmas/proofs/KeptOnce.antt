@@ -104,7 +104,7 @@ worked_once script mode n st strict = worked_of Once once_pending script mode n 
 
 step_once : (script : Script) (mode : Mode) (budget : ℕ) (st : State) → IsStrict st.pending → IsStrict (after_pace st (step script mode budget st)).pending
 step_once script mode budget st strict =
-    step_is (λ (now : State). IsStrict now.pending) script mode budget st strict (λ sync. strict) (worked_once script mode (st.steps + 1) st strict)
+    step_is (λ (now : State). IsStrict now.pending) (λ now is. is) script mode budget st strict (λ sync. strict) (worked_once script mode (st.steps + 1) st strict)
 
 offered_once : (script : Script) (mode : Mode) (st : State) (e : Ending) (parts : Option DevParts) → IsStrict st.pending → IsStrict (after_offer st (option_map (after_arrival script mode (st.steps + 1) st e) parts)).pending
 offered_once script mode st e None strict = strict

@@ -9,6 +9,7 @@ pub mod Handing
 pub mod Settling
 pub mod HandingServes
 pub mod HandedTwice
+pub mod Taken
 pub mod FewDevices
 pub mod Walk
 pub mod Unserved

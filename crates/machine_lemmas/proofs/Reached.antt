@@ -10,7 +10,7 @@ use Rattle.device_model.specs.declared.messages.Ending.{Ending}
 use Rattle.device_model.specs.Devices.Endings.{DevParts, arrive}
 use Rattle.device_model.specs.Devices.Handing.{any_given, any_queued}
 use Rattle.machine_model.specs.States.Objects.{Parts, dev_parts, with_devices}
-use Rattle.machine_model.specs.States.State.{State, parts_of, state_start, with_parts}
+use Rattle.machine_model.specs.States.State.{State, parts_of, state_start, taken, with_parts}
 use Rattle.machine_model.specs.Events.Follow.{delays, dispatched, turned}
 use Rattle.machine_model.specs.Events.Arrivals.{after_arrival, arrived}
 use Rattle.machine_model.specs.Runs.Step.{any_unfinished, counted, ended_or_went, handed_if, has_event, is_quiet, needed, needed_or, needed_sync, needs_if, step, step_if, with_first_handed, worked}
@@ -19,20 +19,24 @@ use Rattle.machine_model.specs.Runs.Reached.{Move, Steps, Arrives, after_move, a
 use Rattle.machine_lemmas.proofs.Walk.{Has, IsKept, IsSteady, kept_followed, kept_worked, of_kept}
 
 -- ---- what holds of a state, of it after what is done at a step, and of it once a request was handed out in sync mode, holds
--- after a step
+-- after a step, where it survives that messages to drivers are taken
+
+-- what holds of a state holds of it once the messages to drivers are taken
+abbrev pub SurvivesTaking : (State → Type 0) → Type 0
+SurvivesTaking Q = (now : State) → Q now → Q (taken now)
 
 abbrev Stepped : (State → Type 0) → Script → Mode → State → Type 0
 Stepped Q script mode st = Q (record (worked script mode (st.steps + 1) st).state { steps = st.steps + 1 })
 
-went_is : (Q : State → Type 0) (ends : Bool) (script : Script) (mode : Mode) (budget : ℕ) (st : State) → Q st → Stepped Q script mode st → Q (after_pace st (ended_or_went ends script mode budget st))
+went_is : (Q : State → Type 0) → SurvivesTaking Q → (ends : Bool) (script : Script) (mode : Mode) (budget : ℕ) (st : State) → Q st → Stepped Q script mode st → Q (after_pace st (ended_or_went ends script mode budget st))
 unfolding counted
-went_is Q true script mode budget st has works = has
-went_is Q false script mode budget st has works = works
+went_is Q takes true script mode budget st has works = has
+went_is Q takes false script mode budget st has works = takes _ works
 
-needed_is : (Q : State → Type 0) (waiting : Option State) (event : Bool) (script : Script) (mode : Mode) (budget : ℕ) (st : State) → ((now : State) → waiting ≡ Some now → Q now) →
+needed_is : (Q : State → Type 0) → SurvivesTaking Q → (waiting : Option State) (event : Bool) (script : Script) (mode : Mode) (budget : ℕ) (st : State) → ((now : State) → waiting ≡ Some now → Q now) →
     Q st → Stepped Q script mode st → Q (after_pace st (needed_or waiting event script mode budget st))
-needed_is Q (Some now) event script mode budget st waits has works = waits now refl
-needed_is Q None event script mode budget st waits has works = went_is Q (not event && not (any_unfinished st.objects.devices)) script mode budget st has works
+needed_is Q takes (Some now) event script mode budget st waits has works = takes now (waits now refl)
+needed_is Q takes None event script mode budget st waits has works = went_is Q takes (not event && not (any_unfinished st.objects.devices)) script mode budget st has works
 
 needs_is : (Q : State → Type 0) (test : Bool) (st now : State) → Q st → needs_if test st ≡ Some now → Q now
 needs_is Q true st now has is = let e : st ≡ now = cc is in subst Q e has
@@ -50,42 +54,43 @@ waiting_is : (Q : State → Type 0) (mode : Mode) (event : Bool) (st now : State
 waiting_is Q modes.Sync event st now has hands is = sync_is Q (any_given st.objects.devices) st now has (hands refl) is
 waiting_is Q modes.Free event st now has hands is = needs_is Q (not event && any_given st.objects.devices) st now has is
 
-quiet_is : (Q : State → Type 0) (quiet : Bool) (script : Script) (mode : Mode) (budget : ℕ) (st : State) → Q st → (mode ≡ modes.Sync → Q (with_first_handed st)) → Stepped Q script mode st →
+quiet_is : (Q : State → Type 0) → SurvivesTaking Q → (quiet : Bool) (script : Script) (mode : Mode) (budget : ℕ) (st : State) → Q st → (mode ≡ modes.Sync → Q (with_first_handed st)) → Stepped Q script mode st →
     Q (after_pace st (step_if quiet script mode budget st))
-quiet_is Q true script mode budget st has hands works =
+quiet_is Q takes true script mode budget st has hands works =
     let event : Bool = has_event script (st.steps + 1) st in
-    needed_is Q (needed mode event st) event script mode budget st (λ now is. waiting_is Q mode event st now has hands is) has works
-quiet_is Q false script mode budget st has hands works = went_is Q false script mode budget st has works
+    needed_is Q takes (needed mode event st) event script mode budget st (λ now is. waiting_is Q mode event st now has hands is) has works
+quiet_is Q takes false script mode budget st has hands works = went_is Q takes false script mode budget st has works
 
 -- what holds in each of these cases holds after a step
-pub step_is : (Q : State → Type 0) (script : Script) (mode : Mode) (budget : ℕ) (st : State) → Q st → (mode ≡ modes.Sync → Q (with_first_handed st)) →
+pub step_is : (Q : State → Type 0) → SurvivesTaking Q → (script : Script) (mode : Mode) (budget : ℕ) (st : State) → Q st → (mode ≡ modes.Sync → Q (with_first_handed st)) →
     Q (record (worked script mode (st.steps + 1) st).state { steps = st.steps + 1 }) → Q (after_pace st (step script mode budget st))
 unfolding step
-step_is Q script mode budget st has hands works = quiet_is Q (is_quiet st) script mode budget st has hands works
+step_is Q takes script mode budget st has hands works = quiet_is Q takes (is_quiet st) script mode budget st has hands works
 
 -- what holds of a state, and after a step is done on it, holds after a step, also where nothing is done
 pub step_has : (P : Parts → Type 0) → IsSteady P → (script : Script) (mode : Mode) (budget : ℕ) (st : State) → Has P st → Has P (worked script mode (st.steps + 1) st).state → Has P (after_pace st (step script mode budget st))
-step_has P kept script mode budget st has works = step_is (Has P) script mode budget st has (λ sync. kept.handed_first (parts_of st) has) works
+step_has P kept script mode budget st has works = step_is (Has P) (λ now. kept.messages (parts_of now)) script mode budget st has (λ sync. kept.handed_first (parts_of st) has) works
 
 -- ---- one ending
 
-offered : (P : Parts → Type 0) (script : Script) (mode : Mode) (st : State) (e : Ending) (parts : Option DevParts) → arrive (dev_parts (parts_of st)) e ≡ parts → Has P st →
+offered : (P : Parts → Type 0) → SurvivesTaking (Has P) → (script : Script) (mode : Mode) (st : State) (e : Ending) (parts : Option DevParts) → arrive (dev_parts (parts_of st)) e ≡ parts → Has P st →
     ((q : DevParts) → arrive (dev_parts (parts_of st)) e ≡ Some q → Has P (after_arrival script mode (st.steps + 1) st e q).state) → Has P (after_offer st (option_map (after_arrival script mode (st.steps + 1) st e) parts))
-offered P script mode st e None is has comes = has
-offered P script mode st e (Some q) is has comes = comes q is
+offered P takes script mode st e None is has comes = has
+offered P takes script mode st e (Some q) is has comes = takes (after_arrival script mode (st.steps + 1) st e q).state (comes q is)
 
--- what holds of a state, and after an ending has arrived in it, holds after an ending is offered
-pub offer_has : (P : Parts → Type 0) (script : Script) (mode : Mode) (st : State) (e : Ending) → Has P st →
+-- what holds of a state, and after an ending has arrived in it, holds after an ending is offered, where it survives that
+-- messages to drivers are taken
+pub offer_has : (P : Parts → Type 0) → SurvivesTaking (Has P) → (script : Script) (mode : Mode) (st : State) (e : Ending) → Has P st →
     ((q : DevParts) → arrive (dev_parts (parts_of st)) e ≡ Some q → Has P (after_arrival script mode (st.steps + 1) st e q).state) → Has P (after_offer st (arrived script mode st e))
 unfolding arrived
-offer_has P script mode st e has comes = offered P script mode st e (arrive (dev_parts (parts_of st)) e) refl has comes
+offer_has P takes script mode st e has comes = offered P takes script mode st e (arrive (dev_parts (parts_of st)) e) refl has comes
 
 -- ---- all moves
 
 pub kept_move : (P : Parts → Type 0) → IsSteady P → (script : Script) (mode : Mode) (budget : ℕ) (st : State) (move : Move) → Has P st → Has P (after_move script mode budget st move)
 kept_move P kept script mode budget st Steps has = step_has P kept script mode budget st has (kept_worked P kept script mode (st.steps + 1) st has)
 kept_move P kept script mode budget st (Arrives e) has =
-    offer_has P script mode st e has
+    offer_has P (λ now. kept.messages (parts_of now)) script mode st e has
     (λ q is. kept_followed P kept script mode (st.steps + 1) (with_parts st (with_devices (parts_of st) q)) (kept.arrived (parts_of st) e q is has))
 
 -- the start is that of the state, and the dispatch of its first task

@@ -36,6 +36,7 @@ use Rattle.machine_lemmas.proofs.HandingServes.{handed_first_none}
 use Rattle.machine_lemmas.proofs.Reached.{reached_has, start_has, step_is}
 use Rattle.machine_lemmas.proofs.Rest.{HasSettled, followed_rest, turned_dispatched, turned_settled, turned_taken}
 use Rattle.machine_lemmas.proofs.Settling.{none_waiting}
+use Rattle.machine_lemmas.proofs.Taken.{taken_rest}
 use Rattle.machine_lemmas.proofs.Walk.{kept_first, of_kept}
 
 -- ---- the start
@@ -157,13 +158,13 @@ offered_rest script mode st e None is slots rest = rest
 offered_rest script mode st e (Some q) is slots rest =
     let now = slots_are_kept.arrived (parts_of st) e q is slots in
     let room = now.base in
-    followed_rest script mode (st.steps + 1) (with_parts st (with_devices (parts_of st) q)) now.few (omega (arith, room))
+    taken_rest mode _ (followed_rest script mode (st.steps + 1) (with_parts st (with_devices (parts_of st) q)) now.few (omega (arith, room)))
 
 -- from a state at rest a machine comes to rest, whether it steps or an ending is offered to it
 pub moved_rest : (script : Script) (mode : Mode) (budget : ℕ) (st : State) (move : Move) → HasSlots (parts_of st) → IsAtRest mode st → IsAtRest mode (after_move script mode budget st move)
 unfolding arrived
 moved_rest script mode budget st Steps slots rest =
-    step_is (IsAtRest mode) script mode budget st rest (first_rest mode st rest)
+    step_is (IsAtRest mode) (λ now. taken_rest mode now) script mode budget st rest (first_rest mode st rest)
     (counted_rest mode (worked script mode (st.steps + 1) st).state (st.steps + 1) (worked_rest script mode (st.steps + 1) st slots))
 moved_rest script mode budget st (Arrives e) slots rest = offered_rest script mode st e (arrive (dev_parts (parts_of st)) e) refl slots rest
 

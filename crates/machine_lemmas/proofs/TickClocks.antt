@@ -102,6 +102,7 @@ periods_are_kept = record {
   served = λ p q few is has. (slots_are_kept.served p q few is has.0, subst ArePeriodic (sym (serving_clocks p q is)) has.1);
   handed = handed_periodic;
   handed_first = λ p has. (slots_are_kept.handed_first p has.0, has.1);
+  messages = λ p has. (slots_are_kept.messages p has.0, has.1);
   arrived = λ p e q is has. (slots_are_kept.arrived p e q is has.0, has.1);
   released = λ p t answer has. (slots_are_kept.released p t answer has.0, has.1);
   again = λ p what has. (slots_are_kept.again p what has.0, has.1);

@@ -298,6 +298,7 @@ times_are_kept = record {
   };
   handed = handed_times;
   handed_first = λ p has. record { periods = kept.handed_first p has.periods; times = has.times };
+  messages = λ p has. record { periods = kept.messages p has.periods; times = has.times };
   arrived = λ p e q is has. record { periods = kept.arrived p e q is has.periods; times = moves p q.base (arrive_keeps (Now p) (dev_parts p) e q is) has };
   flagged = λ p flags has. record { periods = kept.flagged p flags has.periods; times = has.times };
   turned = λ p cur has. record { periods = kept.turned p cur has.periods; times = has.times };

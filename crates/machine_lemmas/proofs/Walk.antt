@@ -48,7 +48,7 @@ use Rattle.context_model.specs.Hooks.Calls.{hook_call}
 use Rattle.device_model.specs.declared.messages.Ending.{Ending}
 use Rattle.device_model.specs.Devices.Calls.{device_call}
 use Rattle.device_model.specs.Devices.Endings.{DevParts, arrive}
-use Rattle.device_model.specs.Devices.Handing.{hand_first}
+use Rattle.device_model.specs.Devices.Handing.{emptied, hand_first}
 use Rattle.machine_model.specs.declared.turns.Turn.{Turn}
 use Rattle.machine_model.specs.declared.turns.Turn.TheVariants as turns
 use Rattle.machine_model.specs.States.Objects.{Parts, dev_parts, mail_parts, pool_parts, with_devices}
@@ -88,6 +88,7 @@ pub record IsKept (P : Parts → Type 0) : Type 0 where
   pub served : Served P
   pub handed : Handed P
   pub handed_first : (p : Parts) → P p → P (record p { objects = record p.objects { devices = hand_first p.objects.devices } })
+  pub messages : (p : Parts) → P p → P (record p { objects = record p.objects { devices = emptied p.objects.devices } })
   pub arrived : (p : Parts) (e : Ending) (q : DevParts) → arrive (dev_parts p) e ≡ Some q → P p → P (with_devices p q)
   pub released : (p : Parts) (t : ℕ) (answer : Answer) → P p → P (record p { base = release p.base t answer })
   pub again : (p : Parts) (what : DueKind) → P p → P (record p { base = again p.base p.objects.clocks what })
@@ -155,6 +156,7 @@ pub record IsSteady (P : Parts → Type 0) : Type 0 where
   pub served : Served P
   pub handed : Handed P
   pub handed_first : (p : Parts) → P p → P (record p { objects = record p.objects { devices = hand_first p.objects.devices } })
+  pub messages : (p : Parts) → P p → P (record p { objects = record p.objects { devices = emptied p.objects.devices } })
   pub arrived : (p : Parts) (e : Ending) (q : DevParts) → arrive (dev_parts p) e ≡ Some q → P p → P (with_devices p q)
   pub flagged : (p : Parts) (flags : Flags) → P p → P (record p { base = set_flags p.base flags })
   pub turned : (p : Parts) (cur : Option ℕ) → P p → P (record p { base = record p.base { cur = cur } })
@@ -181,6 +183,7 @@ of_kept P kept = record {
   served = kept.served;
   handed = kept.handed;
   handed_first = kept.handed_first;
+  messages = kept.messages;
   arrived = kept.arrived;
   flagged = kept.flagged;
   turned = kept.turned;

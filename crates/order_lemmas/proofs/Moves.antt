@@ -8,10 +8,11 @@ use Rattle.device_model.specs.Units.Function.{Served}
 use Rattle.kernel_model.specs.Tasks.Base.{Base, fifo_queue}
 use Rattle.kernel_model.specs.Words.Orders.{entry}
 use Rattle.device_model.specs.Devices.Tables.{Devices, Given, Link, Row, accepted, asked, asked_given, asked_link, device_ids, dropped, first_queued, handed, handed_first, handed_given, handed_link, handed_row, is_at_driver, link_asked, link_at, row_at}
-use Rattle.device_model.specs.Devices.Handing.{hand_first, hand_over, handed_one, handed_unless, suspension_object}
+use Rattle.device_model.specs.Devices.Handing.{emptied, hand_first, hand_over, handed_one, handed_unless, link_emptied, suspension_object}
 use Rattle.device_model.specs.Devices.Endings as endings
 use Rattle.device_model.specs.Devices.Endings.{DevParts, arrive, close_object}
 use Rattle.device_model.specs.Devices.MoveProofs.{IsArrivalProof, IsMoveProof}
+use Rattle.device_lemmas.proofs.Emptied.{emptied_at}
 use Rattle.device_lemmas.proofs.Walk.{Kept}
 use Rattle.machine_lemmas.proofs.DeviceServings.{accepted_links, dropped_links}
 use Rattle.machine_lemmas.proofs.KnownDevices.{AreKnown, beside_known, dropped_beside, handed_beside, open_known}
@@ -39,6 +40,11 @@ one_known (Some d) dv known = beside_known dv (handed dv d) (handed_beside dv d)
 pub first_known : (dv : Devices) → AreKnown dv → AreKnown (hand_first dv)
 unfolding hand_first
 first_known dv known = one_known _ dv known
+
+-- messages to drivers are taken
+pub emptied_known : (dv : Devices) → AreKnown dv → AreKnown (emptied dv)
+unfolding emptied
+emptied_known dv known = record { opened = known.opened; wished = known.wished }
 
 free_known : (waiters : List ℕ) (dv : Devices) (dd : ℕ) → AreKnown dv → AreKnown (endings.free_unless waiters dv dd)
 free_known [] dv dd known = open_known dv dd None tt known
@@ -184,6 +190,10 @@ zero_moves = record {
   hands = handed_zero;
   asks = asked_zero;
 }
+
+-- nor do messages that are taken
+pub emptied_zero : (dv : Devices) → HasNoZero dv → HasNoZero (emptied dv)
+emptied_zero dv none = emptied_at dv 0 ∙ ap link_emptied none
 
 -- nor does an ending that arrives
 pub zero_arrivals : IsArrivalProof HasNoZero

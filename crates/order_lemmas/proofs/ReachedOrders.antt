@@ -40,7 +40,7 @@ use Rattle.machine_lemmas.proofs.Servings.{FewDevices, serving}
 use Rattle.machine_lemmas.proofs.Walk.{IsKept}
 use Rattle.order_lemmas.proofs.DeviceOrders.{DevRight, device_calls_fit, mails_same, right_survives}
 use Rattle.order_lemmas.proofs.MailOrders.{mail_calls_fit}
-use Rattle.order_lemmas.proofs.Moves.{HasNoZero, arrive_mails, arrived_known, first_known, over_known, zero_arrivals, zero_moves}
+use Rattle.order_lemmas.proofs.Moves.{HasNoZero, arrive_mails, arrived_known, emptied_known, emptied_zero, first_known, over_known, zero_arrivals, zero_moves}
 use Rattle.order_lemmas.proofs.MutexOrders.{free_last_fits, mutex_calls_fit}
 use Rattle.order_lemmas.proofs.PoolOrders.{pool_calls_fit}
 use Rattle.order_lemmas.proofs.Rights.{AreRight, delete_fits, release_fits, right_same, set_current_fits}
@@ -155,6 +155,12 @@ orders_are_kept = record {
     places = placed.handed_first p has.places;
     none = devices.hand_first_keeps HasNoZero zero_moves p.objects.devices has.none;
     known = first_known p.objects.devices has.known;
+    orders = right_same (order_for p.objects) _ p.base (λ object. refl) has.orders;
+  };
+  messages = λ p has. record {
+    places = placed.messages p has.places;
+    none = emptied_zero p.objects.devices has.none;
+    known = emptied_known p.objects.devices has.known;
     orders = right_same (order_for p.objects) _ p.base (λ object. refl) has.orders;
   };
   arrived = arrived_orders;

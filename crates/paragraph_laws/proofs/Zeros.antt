@@ -59,7 +59,7 @@ use Rattle.machine_model.specs.States.Objects.{Parts, dev_parts, first_serving a
 use Rattle.machine_model.specs.States.State.{parts_of, state_start}
 use Rattle.machine_lemmas.proofs.BaseKept.{start_slots}
 use Rattle.machine_lemmas.proofs.Changes.{Survives}
-use Rattle.machine_lemmas.proofs.FewDevices.{few_arrivals, few_moves}
+use Rattle.machine_lemmas.proofs.FewDevices.{emptied_few, few_arrivals, few_moves}
 use Rattle.machine_lemmas.proofs.KnownDevices.{IsWished}
 use Rattle.machine_lemmas.proofs.Reached.{reached_has}
 use Rattle.machine_lemmas.proofs.Servings.{FewDevices, serving}
@@ -465,6 +465,7 @@ none_is_kept = record {
   };
   handed = handed_none;
   handed_first = λ p has. record { base = has.base; mutexes = has.mutexes; few = devices.hand_first_keeps (λ dv. length dv.links ≤ 9) few_moves p.objects.devices has.few };
+  messages = λ p has. record { base = has.base; mutexes = has.mutexes; few = emptied_few p.objects.devices has.few };
   arrived = λ p e q is has. record {
     base = arrive_keeps HasNoZero (dev_parts p) e q is has.base;
     mutexes = has.mutexes;

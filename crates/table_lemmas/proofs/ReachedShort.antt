@@ -108,6 +108,7 @@ short_is_kept = record {
   served = λ p q few is has. record { short = there q (serve_object p) is (served_short p has.short); slots = slots_are_kept.served p q few is has.slots };
   handed = λ mode p has. record { short = handed_short mode p has.short; slots = slots_are_kept.handed mode p has.slots };
   handed_first = λ p has. record { short = record { sem_flags = has.short.sem_flags; mutexes = has.short.mutexes; mails = has.short.mails; pools = has.short.pools }; slots = slots_are_kept.handed_first p has.slots };
+  messages = λ p has. record { short = record { sem_flags = has.short.sem_flags; mutexes = has.short.mutexes; mails = has.short.mails; pools = has.short.pools }; slots = slots_are_kept.messages p has.slots };
   arrived = λ p e q is has. record { short = record { sem_flags = has.short.sem_flags; mutexes = has.short.mutexes; mails = subst MailsShort (sym (arrive_mails (dev_parts p) q e is)) has.short.mails; pools = has.short.pools }; slots = slots_are_kept.arrived p e q is has.slots };
   released = λ p t answer has. record { short = record { sem_flags = has.short.sem_flags; mutexes = has.short.mutexes; mails = has.short.mails; pools = has.short.pools }; slots = slots_are_kept.released p t answer has.slots };
   again = λ p what has. record { short = record { sem_flags = has.short.sem_flags; mutexes = has.short.mutexes; mails = has.short.mails; pools = has.short.pools }; slots = slots_are_kept.again p what has.slots };

@@ -1,5 +1,5 @@
 use Rattle.device_laws.specs.Moves.{Leads}
-use Rattle.device_laws.proofs.Leading.{no_moves, leading, arriving}
+use Rattle.device_laws.proofs.Leading.{no_moves, leading, arriving, taking}
 use Rattle.device_lemmas.proofs.Walk.{calls_keep, acceptances_keep, endings_keep, closes_keep, suspension_keeps, hand_over_keeps, hand_first_keeps, arrival_keeps}
 use Rattle.device_laws.proofs.laws.all_is_made_of_moves.Goals as goal
 
@@ -26,3 +26,6 @@ returns-clause-first c dv = hand_first_keeps (Leads dv) (leading dv) dv (no_move
 
 pub returns-clause-arrivals : goal.returns-clause-arrivals
 returns-clause-arrivals c p ending = arrival_keeps (Leads p.table) (leading p.table) (arriving p.table) p ending (no_moves p.table)
+
+pub returns-clause-taking : goal.returns-clause-taking
+returns-clause-taking c dv = taking dv

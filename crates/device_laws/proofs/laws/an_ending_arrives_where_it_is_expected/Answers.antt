@@ -7,7 +7,7 @@ pub returns-clause-arrived : goal.returns-clause-arrived
 returns-clause-arrived c = arrived_was_expected
 
 pub returns-clause-arrives : goal.returns-clause-arrives
-returns-clause-arrives c p d how ending taken tied is = expected_arrives p d how ending taken tied is
+returns-clause-arrives c p d how ending taken room tied is = expected_arrives p d how ending taken room tied is
 
 pub returns-clause-tied : goal.returns-clause-tied
 returns-clause-tied c dv moves = stay_tied moves dv

@@ -19,5 +19,5 @@ serve_suspension-requires c = record {
 
 pub returns : goal.returns
 returns c =
-    suspension_last c.args.self.now c.serve_fixed_pool.new.self c.serve_variable_pool.new.self c.serve_suspension.new.self _ _ _ c.known_of_tasks.ensures.none c.serve_fixed_pool.ensures c.if-serve_fixed_pool.false c.serve_variable_pool.ensures c.if-serve_variable_pool.false
+    suspension_last c.args.self.now c.serve_fixed_pool.new.self c.serve_variable_pool.new.self c.serve_suspension.new.self _ _ _ c.known_of_tasks.ensures.devices c.serve_fixed_pool.ensures c.if-serve_fixed_pool.false c.serve_variable_pool.ensures c.if-serve_variable_pool.false
     c.serve_suspension.ensures
