@@ -14,7 +14,8 @@ use Rattle.unit_laws.proofs.Blocks.{blocks_cut, blocks_part, blocks_whole, last_
 use Rattle.unit_laws.proofs.Counts.{count_same}
 use Rattle.dev_units.specs.declared.block_end.BlockEnd.{BlockEnd}
 use Rattle.dev_units.specs.declared.block_end.BlockEnd.TheVariants.{Ended, More}
-use Rattle.dev_units.specs.Ends.{block_end, error_at, size_at}
+use Rattle.driver_model.specs.Ends.{error_at, size_at}
+use Rattle.dev_units.specs.Ends.{block_end}
 use Rattle.dev_units.specs.Progress.{CameTo, IsUnderWay, brought, ended_with, partial}
 
 -- ---- the beginning
