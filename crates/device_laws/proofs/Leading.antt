@@ -55,6 +55,9 @@ arriving dv = record {
 }
 
 -- messages that are taken are a move
-pub taking : (dv : Devices) → Leads dv (emptied dv)
+pub takes : (dv now : Devices) → Leads dv now → Leads dv (emptied now)
 unfolding moved
-taking dv = one_more dv dv (emptied dv) Takes refl (no_moves dv)
+takes dv now = one_more dv now (emptied now) Takes refl
+
+pub taking : (dv : Devices) → Leads dv (emptied dv)
+taking dv = takes dv dv (no_moves dv)

@@ -44,7 +44,7 @@ pub stay_apart : (moves : List Move) (dv : Devices) → AreApart dv → AreApart
 unfolding all_moved
 stay_apart moves dv before = all_keep AreApart apart_kept moves dv before
 
-nothing_there : (n id : ℕ) (row : Row) → entry (replicate n None) id ≡ Some row → ⊥
+pub nothing_there : (n id : ℕ) (row : Row) → entry (replicate n None) id ≡ Some row → ⊥
 nothing_there zero id row there = absurd (cc there)
 nothing_there (suc n) zero row there = absurd (cc there)
 nothing_there (suc n) (suc id) row there = nothing_there n id row there

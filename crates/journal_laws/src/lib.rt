@@ -2,4 +2,5 @@
 #![tactic(auto)]
 
 pub mod laws;
+pub mod requests;
 pub mod turns;
