@@ -27,15 +27,15 @@ both true b is = (refl, is)
 both false b is = absurd (cc is)
 
 -- an ending that is fit has the bytes that its unit read
-bytes_of_fit : (ending : Ending) (link : Link) (given : Given) → is_fit ending link given ≡ true → (served_of link.kind link.store given.request ending.how).content ≡ ending.bytes
+bytes_of_fit : (ending : Ending) (link : Link) (given : Given) → is_fit ending link given ≡ true → (served_of link.kind link.store given.request ending.how).content ≡ ending.bytes.items
 bytes_of_fit ending link given fit =
     let served : Served = served_of link.kind link.store given.request ending.how in
     let told = both (is_allowed link.kind link.store given ending.how) (says ending given.request served) fit in
     let first = both (ending.request == given.request.id) _ told.1 in
     let second = both (ending.number == given.request.number) _ first.1 in
     let third = both (ending.size == served.size) _ second.1 in
-    let fourth = both (is_error ending.error served.error) (bytes_eq ending.bytes served.content) third.1 in
-    sym ((bytes_eq-Decides ending.bytes served.content).0 fourth.1)
+    let fourth = both (is_error ending.error served.error) (bytes_eq ending.bytes.items served.content) third.1 in
+    sym ((bytes_eq-Decides ending.bytes.items served.content).0 fourth.1)
 
 allowed_of_fit : (ending : Ending) (link : Link) (given : Given) → is_fit ending link given ≡ true → is_allowed link.kind link.store given ending.how ≡ true
 allowed_of_fit ending link given fit = (both (is_allowed link.kind link.store given ending.how) _ fit).0
@@ -51,7 +51,7 @@ allows_fit ending (Some link) fit = allows_by ending link link.given refl fit
 
 -- what an ending leaves of the state, for the request that is there
 abbrev pub arrived_at : DevParts → Ending → Expected → DevParts
-arrived_at p ending x = record p { table = closed p.base (ended_parts p.table ending.device x.id ending.how) x.id x.descriptor; memory = write_bytes ending.bytes x.address p.memory }
+arrived_at p ending x = record p { table = closed p.base (ended_parts p.table ending.device x.id ending.how) x.id x.descriptor; memory = write_bytes ending.bytes.items x.address p.memory }
 
 abbrev ended_slot_of : Devices → ℕ → Served → Row → Requests
 ended_slot_of dv id served row = record {
@@ -86,7 +86,7 @@ row_arrives p ending link given (Some row) there has in_row fit = at_if (is_at_d
     at_if true is =
         let table : closed p.base (ended_at p.table ending.device link given.request.id row (served_of link.kind link.store given.request ending.how)) given.request.id row.descriptor ≡ closed p.base (ended_parts p.table ending.device given.request.id ending.how) given.request.id row.descriptor =
         ap (λ (dv : Devices). closed p.base dv given.request.id row.descriptor) (ended_table p.table ending.device link given row ending.how there has in_row is) in
-        let memory : write_bytes (served_of link.kind link.store given.request ending.how).content row.address p.memory ≡ write_bytes ending.bytes row.address p.memory =
+        let memory : write_bytes (served_of link.kind link.store given.request ending.how).content row.address p.memory ≡ write_bytes ending.bytes.items row.address p.memory =
         ap (λ xs. write_bytes xs row.address p.memory) (bytes_of_fit ending link given fit) in
         rw is (ap (λ (dv : Devices). Some (record p { table = dv; memory = write_bytes (served_of link.kind link.store given.request ending.how).content row.address p.memory })) table
         ∙ ap (λ (m : List ℕ). Some (record p { table = closed p.base (ended_parts p.table ending.device given.request.id ending.how) given.request.id row.descriptor; memory = m })) memory)

@@ -9,6 +9,7 @@ use Rattle.device_model.specs.declared.messages.Message.{Message}
 use Rattle.tk_types.specs.declared.script.Device.{Device}
 use Rattle.device_model.specs.Devices.Tables.{Link, link_start}
 use Rattle.device_model.specs.Devices.Handing.{has_given, link_emptied, out_of}
+use Rattle.dev_layer.specs.Handing.{is_worn}
 use Rattle.dev_layer.specs.Messages.{AreFrom, AreKnown, attached, is_for, put_out, receiver, with_out}
 
 -- ---- reading
@@ -25,6 +26,17 @@ some_attached out (Some link) = refl
 given_attached : (out : List Message) (slot : Option Link) → has_given (with_out out slot) ≡ has_given slot
 given_attached out None = refl
 given_attached out (Some link) = refl
+
+worn_out : (out : List Message) (slot : Option Link) → is_worn (with_out out slot) ≡ is_worn slot
+worn_out out None = refl
+worn_out out (Some link) = refl
+
+pub worn_attached : (slots : List (Option Link)) (d : ℕ) (out : List Message) → list_any is_worn (attached slots d out) ≡ list_any is_worn slots
+worn_attached [] d out = refl
+worn_attached (slot ∷ slots) d out =
+    let rest = worn_attached slots (d + 1) out in
+    let first = worn_out (filter (is_for d) out) slot in
+    simp (rest, first) refl
 
 pub any_attached : (slots : List (Option Link)) (d : ℕ) (out : List Message) → list_any has_given (attached slots d out) ≡ list_any has_given slots
 any_attached [] d out = refl

@@ -1,15 +1,16 @@
 -- Requests go to drivers, of the table's parts.
 use Rattle.std.proofs.Common.{◌≡◌, ℕ, zero, suc, ◌+◌, ◌<◌, Bool, true, false, List, [], ◌∷◌, Option, Some, None, refl, ap, sym, ◌∙◌, arith, length, drop, add-one}
-use Rattle.std.specs.List.{find, fold}
+use Rattle.std.specs.List.{find, fold, list_any}
 use Rattle.std.specs.Option.{is_some}
 use Rattle.std.specs.Bool.{◌==◌}
-use Rattle.std.specs.Prelude.{◌&&◌}
+use Rattle.std.specs.Prelude.{◌&&◌, ◌||◌, ◌^◌}
+use Rattle.std.proofs.lemmas.Bool.Decides.{nat_tests}
 use Rattle.kernel_model.specs.Words.Orders.{entry, taken_from}
 use Rattle.kernel_lemmas.proofs.Tables.{entry_other}
 use Rattle.device_model.specs.declared.messages.Request.{Request}
 use Rattle.device_model.specs.Devices.Handing.{hand_first, handed_one, has_given}
 use Rattle.device_model.specs.Devices.Tables.{Devices, Given, Link, Row, first_queued, given_in, handed, handed_first, handed_given, handed_link, handed_row, is_queued, link_at, queues_on, request_of, row_at}
-use Rattle.dev_layer.specs.Handing.{with_parts}
+use Rattle.dev_layer.specs.Handing.{MayCount, is_worn, with_parts}
 use Rattle.dev_layer.specs.Messages.{handed_entry, links_handed, number_in}
 use Rattle.dev_layer.specs.Requests.{Requests, first_waiting, handed_slot, queues_some, request_handed}
 use Rattle.dev_layer.specs.Tables.{requests_of}
@@ -123,6 +124,25 @@ handed_other links d request (Some link) n apart = entry_other links d n _ apart
 -- all other devices are as they were
 pub others_kept : (links after : List (Option Link)) (d : ℕ) (request : Request) → after ≡ links_handed links d request → (n : ℕ) → (n ≡ d → ⊥) → entry after n ≡ entry links n
 others_kept links after d request is n apart = ap (λ (all : List (Option Link)). entry all n) is ∙ handed_other links d request (entry links d) n apart
+
+-- ---- counting
+
+both_false : (a b : Bool) → (a || b) ≡ false → (a ≡ false) × (b ≡ false)
+both_false true b is = absurd (cc is)
+both_false false b is = (refl, is)
+
+one_counts : (slot : Option Link) → is_worn slot ≡ false → number_in slot + 1 < 2 ^ 64
+one_counts None fresh = omega arith
+one_counts (Some link) fresh = grind (arith, nat_tests, fresh)
+
+each_counts : (links : List (Option Link)) → list_any is_worn links ≡ false → (d : ℕ) → number_in (entry links d) + 1 < 2 ^ 64
+each_counts [] none d = omega arith
+each_counts (slot ∷ slots) none zero = one_counts slot (both_false (is_worn slot) (list_any is_worn slots) none).0
+each_counts (slot ∷ slots) none (suc d) = each_counts slots (both_false (is_worn slot) (list_any is_worn slots) none).1 d
+
+-- where no driver has had as many requests as can be counted, one more can be for each
+pub may_count : (links : List (Option Link)) → list_any is_worn links ≡ false → MayCount links
+may_count links none = record { few = each_counts links none }
 
 -- ---- one device after another
 

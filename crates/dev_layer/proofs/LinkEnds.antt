@@ -1,7 +1,8 @@
 -- What an ending makes of a device's part.
-use Rattle.std.proofs.Common.{◌≡◌, ℕ, ◌+◌, ◌≤◌, Bool, true, false, cond, List, Some, None, refl, ap, sym, subst, ◌∙◌, arith, length}
+use Rattle.std.proofs.Common.{◌≡◌, ℕ, ◌+◌, ◌≤◌, Bool, true, false, cond, List, [], Some, None, refl, ap, sym, subst, ◌∙◌, arith, length, take, drop}
 use Rattle.std.specs.Bool.{◌==◌}
 use Rattle.std.specs.Prelude.{◌&&◌}
+use Rattle.std.proofs.lemmas.List.{places}
 use Rattle.tk_types.specs.declared.error_code.Er.{Er}
 use Rattle.tk_types.specs.declared.line.How.{How}
 use Rattle.tk_types.specs.declared.line.How.TheVariants.{Done, Cut}
@@ -9,11 +10,12 @@ use Rattle.tk_types.specs.declared.script.Kind.{Kind}
 use Rattle.device_model.specs.declared.messages.Ending.{Ending}
 use Rattle.device_model.specs.declared.messages.Request.{Request}
 use Rattle.device_model.specs.Devices.Tables.{Given, Link}
-use Rattle.device_model.specs.Devices.Endings.{ending_of, expected_given, is_allowed, says, served_of}
-use Rattle.device_model.specs.Units.Function.{Served, available, begin, content_of, count_of, cut, moved, unit}
+use Rattle.device_model.specs.Devices.Endings.{bytes_back, ending_of, expected_given, is_allowed, says, served_of}
+use Rattle.device_model.specs.RoomyBytes.{RoomyBytes}
+use Rattle.device_model.specs.Units.Function.{IsWhole, Served, available, begin, content_of, count_of, cut, moved, unit}
 use Rattle.device_model.specs.Units.Stores.{Store}
 use Rattle.dev_layer.specs.Links.{IsServed, allows_end, allows_given, count_by_end, ended_given, fits_given, link_ended, stored}
-use Rattle.dev_layer.proofs.Stores.{available_few, begin_bytes, count_fits, moved_fits, served_read, served_store}
+use Rattle.dev_layer.proofs.Stores.{available_few, begin_bytes, count_fits, moved_asked, moved_fits, served_read, served_store}
 
 pub allowed_is : (result : Bool) (kind : Kind) (store : Store) (request : Request) (asked : Bool) (how : How) (link : Link) (given : Given) → result ≡ is_allowed kind store (record { request = request; asked = asked }) how →
     kind ≡ link.kind → store ≡ link.store → request ≡ given.request → asked ≡ given.asked → result ≡ is_allowed link.kind link.store given how
@@ -39,22 +41,35 @@ read_at kind store request how count content counted is = served_read kind store
 expected_if : (d : ℕ) (how : How) (link : Link) (given : Given) → is_allowed link.kind link.store given how ≡ true → expected_given d how link (Some given) ≡ Some (ending_of d given.request how (served_of link.kind link.store given.request how))
 expected_if d how link given may = rw may refl
 
-ending_is : (d : ℕ) (how : How) (request asked_for : Request) (served : Served) (size : ℕ) (error : Er) (bytes : List ℕ) → request ≡ asked_for → IsServed served size error → served.content ≡ bytes →
+ending_is : (d : ℕ) (how : How) (request asked_for : Request) (served : Served) (size : ℕ) (error : Er) (bytes : RoomyBytes) → request ≡ asked_for → IsServed served size error → bytes ≡ bytes_back asked_for served.content →
     record { device = d; request = request.id; number = request.number; how = how; size = size; error = error; taken = 0; bytes = bytes } ≡ ending_of d asked_for how served
-ending_is d how request asked_for served size error bytes requests is read =
+ending_is d how request asked_for served size error bytes requests is back =
     ap (λ r. record { device = d; request = r.id; number = r.number; how = how; size = size; error = error; taken = 0; bytes = bytes }) requests
     ∙ ap (λ n. record { device = d; request = asked_for.id; number = asked_for.number; how = how; size = n; error = error; taken = 0; bytes = bytes }) is.size_is
     ∙ ap (λ e. record { device = d; request = asked_for.id; number = asked_for.number; how = how; size = served.size; error = e; taken = 0; bytes = bytes }) is.error_is
-    ∙ ap (λ xs. record { device = d; request = asked_for.id; number = asked_for.number; how = how; size = served.size; error = served.error; taken = 0; bytes = xs }) (sym read)
+    ∙ ap (λ b. record { device = d; request = asked_for.id; number = asked_for.number; how = how; size = served.size; error = served.error; taken = 0; bytes = b }) back
 
 -- the ending that is fit
-pub expected_at : (d : ℕ) (how : How) (link : Link) (given : Given) (request : Request) (size : ℕ) (error : Er) (bytes : List ℕ) → link.given ≡ Some given → is_allowed link.kind link.store given how ≡ true → request ≡ given.request →
-    IsServed (served_of link.kind link.store given.request how) size error → (served_of link.kind link.store given.request how).content ≡ bytes →
+pub expected_at : (d : ℕ) (how : How) (link : Link) (given : Given) (request : Request) (size : ℕ) (error : Er) (content : List ℕ) (bytes : RoomyBytes) → link.given ≡ Some given → is_allowed link.kind link.store given how ≡ true → request ≡ given.request →
+    IsServed (served_of link.kind link.store given.request how) size error → (served_of link.kind link.store given.request how).content ≡ content → bytes ≡ bytes_back request content →
     Some (record { device = d; request = request.id; number = request.number; how = how; size = size; error = error; taken = 0; bytes = bytes }) ≡ expected_given d how link link.given
-expected_at d how link given request size error bytes there may requests is read =
-    ap (λ (e : Ending). Some e) (ending_is d how request given.request (served_of link.kind link.store given.request how) size error bytes requests is read)
+expected_at d how link given request size error content bytes there may requests is read back =
+    ap (λ (e : Ending). Some e) (ending_is d how request given.request (served_of link.kind link.store given.request how) size error bytes requests is
+    (back ∙ ap (λ (r : Request). bytes_back r content) requests ∙ ap (bytes_back given.request) (sym read)))
     ∙ sym (expected_if d how link given may)
     ∙ ap (expected_given d how link) (sym there)
+
+read_few : (write : Bool) (start count size room : ℕ) (bytes : List ℕ) → count ≤ size → (write ≡ false → size ≤ room) → length (cond write [] (take count (drop start bytes))) ≤ cond write 0 room
+read_few true start count size room bytes few fits = omega arith
+read_few false start count size room bytes few fits = let most : length (take count (drop start bytes)) ≤ count = grind (arith, places) in omega (arith, most, few, fits refl)
+
+-- what is read has a place in the room that the request came with
+pub back_fits : (link : Link) (how : How) (given : Given) (count : ℕ) (content : List ℕ) → IsWhole given.request → is_allowed link.kind link.store given how ≡ true → count ≡ count_by_end link.kind link.store given.request how →
+    content ≡ content_of link.store given.request count → length content ≤ cond given.request.write 0 given.request.bytes.room
+back_fits link how given count content whole may counted is =
+    let few : count ≤ given.request.size = subst (λ (n : ℕ). n ≤ given.request.size) (sym counted) (moved_asked link.kind link.store given.request given.asked how may) in
+    subst (λ (xs : List ℕ). length xs ≤ cond given.request.write 0 given.request.bytes.room) (sym is)
+    (read_few given.request.write given.request.start count given.request.size given.request.bytes.room link.store.bytes few whole.room)
 
 -- ---- the end of a request
 

@@ -3,14 +3,13 @@ use Rattle.std.proofs.Common.{◌≡◌, ℕ, zero, suc, ◌≤◌, ◌<◌, Boo
 use Rattle.std.specs.Bool.{◌==◌}
 use Rattle.std.specs.Prelude.{unwrap_or, ◌%◌, ◌/◌}
 use Rattle.std.proofs.lemmas.Bool.Decides.{nat_tests}
-use Rattle.std.proofs.lemmas.List.{length-set}
 use Rattle.tk_types.specs.declared.answer.Answer.{Answer}
 use Rattle.tk_types.specs.declared.task.Order.TheVariants.{Fifo}
 use Rattle.kernel_model.specs.Words.Orders.{entry}
 use Rattle.kernel_model.specs.Tasks.Base.{Base, release, waiting_in, waits_for}
 use Rattle.kernel_model.specs.Tasks.Queues.{AreOfOrder}
 use Rattle.kernel_lemmas.proofs.Releases.{release_others, release_over}
-use Rattle.kernel_lemmas.proofs.Tables.{entry_each, entry_other, entry_same}
+use Rattle.kernel_lemmas.proofs.Tables.{entry_each, entry_same}
 use Rattle.object_model.specs.Mails.Buffers.{first_of, has_space, message_stored, none_waits, post, posted, receivers, senders, sent_at_once, takes_length}
 use Rattle.object_model.specs.Mails.Calls.{has_place}
 use Rattle.std.specs.Option.{is_some}
@@ -19,8 +18,8 @@ use Rattle.device_model.specs.Devices.Suspension.{after_post, event_bytes, event
 use Rattle.device_model.specs.Devices.Memory.{four_bytes}
 use Rattle.device_model.specs.Devices.Tables.{buffer_of}
 use Rattle.object_model.specs.Mails.Tables.{MailParts, Mails, MessageBuffer, buffer_at, bytes_of, has_mbf, place_of, receivers_object, senders_object, with_buffer}
+use Rattle.mail_buffer.specs.Tables.{AreNamed}
 use Rattle.mail_buffer.proofs.Ending.{release_alike}
-use Rattle.dev_layer.specs.Accepting.{AreNamed}
 use Rattle.dev_layer.specs.Parts.{AreFit, parts_of}
 use Rattle.dev_layer.proofs.Aborting.{idle_for}
 
@@ -48,7 +47,6 @@ released_fit b m t result fit = record {
     senders = λ id u k low high there waits. fit.asked.senders id u k low high there (waits_before b t result (senders_object id) u waits);
     receivers = λ id u k low high there waits. fit.asked.receivers id u k low high there (waits_before b t result (receivers_object id) u waits);
   };
-  named = fit.named;
 }
 
 -- ---- a message is stored
@@ -61,8 +59,8 @@ each_kept P m id k messages all there same = entry_each (λ n slot. (j : Message
     (λ j is. (let itself : record k { messages = messages } ≡ j = cc is in subst (P id) itself (same (all id k there)))) (λ j is. absurd (cc is)))
     (λ n apart. all n)
 
-stored_fit : (b : Base) (m : Mails) (id : ℕ) (k : MessageBuffer) (messages : List (List ℕ)) → 1 ≤ id → buffer_at m id ≡ Some k → AreFit b m → AreFit b (with_buffer m id (Some (record k { messages = messages })))
-stored_fit b m id k messages low there fit = record {
+stored_fit : (b : Base) (m : Mails) (id : ℕ) (k : MessageBuffer) (messages : List (List ℕ)) → buffer_at m id ≡ Some k → AreFit b m → AreFit b (with_buffer m id (Some (record k { messages = messages })))
+stored_fit b m id k messages there fit = record {
   queued = record {
     boxes = fit.queued.boxes;
     senders = λ n j least most is. each_kept (λ n j. 1 ≤ n → n ≤ 64 → AreOfOrder j.order b (senders_object n)) m id k messages (λ n j is least most. fit.queued.senders n j least most is) there (λ was. was) n j is least most;
@@ -74,10 +72,6 @@ stored_fit b m id k messages low there fit = record {
     receivers = λ n u j least most is waits. each_kept (λ n j. 1 ≤ n → n ≤ 64 → waits_for b (receivers_object n) u ≡ true → has_place (place_of m u) j ≡ true) m id k messages
         (λ n j is least most waits. fit.asked.receivers n u j least most is waits) there (λ was. was) n j is least most waits;
   };
-  named = record {
-    few = subst (λ (n : ℕ). n ≤ 65) (sym (length-set m.buffers id (Some (record k { messages = messages })))) fit.named.few;
-    unnamed = entry_other m.buffers id 0 (Some (record k { messages = messages })) (λ is. omega (arith, low, is)) ∙ fit.named.unnamed;
-  };
 }
 
 -- ---- a send
@@ -86,37 +80,37 @@ abbrev FitAfter : Option MailParts → Type 0
 FitAfter None = Unit {0}
 FitAfter (Some q) = AreFit q.base q.table
 
-space_fit : (p : MailParts) (id : ℕ) (k : MessageBuffer) (bytes : List ℕ) (room : Bool) → 1 ≤ id → buffer_at p.table id ≡ Some k → AreFit p.base p.table → FitAfter (cond room (Some (message_stored p id k bytes)) None)
-space_fit p id k bytes true low there fit = stored_fit p.base p.table id k (k.messages ++ bytes ∷ []) low there fit
-space_fit p id k bytes false low there fit = tt
+space_fit : (p : MailParts) (id : ℕ) (k : MessageBuffer) (bytes : List ℕ) (room : Bool) → buffer_at p.table id ≡ Some k → AreFit p.base p.table → FitAfter (cond room (Some (message_stored p id k bytes)) None)
+space_fit p id k bytes true there fit = stored_fit p.base p.table id k (k.messages ++ bytes ∷ []) there fit
+space_fit p id k bytes false there fit = tt
 
-at_once_fit : (p : MailParts) (id : ℕ) (k : MessageBuffer) (alone : Bool) (receiver : Option ℕ) (messages : List (List ℕ)) (bytes : List ℕ) → 1 ≤ id → buffer_at p.table id ≡ Some k → AreFit p.base p.table →
+at_once_fit : (p : MailParts) (id : ℕ) (k : MessageBuffer) (alone : Bool) (receiver : Option ℕ) (messages : List (List ℕ)) (bytes : List ℕ) → buffer_at p.table id ≡ Some k → AreFit p.base p.table →
     FitAfter (sent_at_once p id k alone receiver messages bytes)
-at_once_fit p id k false receiver messages bytes low there fit = tt
-at_once_fit p id k true (Some receiver) (oldest ∷ later) bytes low there fit = tt
-at_once_fit p id k true (Some receiver) [] bytes low there fit = released_fit p.base p.table receiver _ fit
-at_once_fit p id k true None messages bytes low there fit = space_fit p id k bytes (has_space k bytes) low there fit
+at_once_fit p id k false receiver messages bytes there fit = tt
+at_once_fit p id k true (Some receiver) (oldest ∷ later) bytes there fit = tt
+at_once_fit p id k true (Some receiver) [] bytes there fit = released_fit p.base p.table receiver _ fit
+at_once_fit p id k true None messages bytes there fit = space_fit p id k bytes (has_space k bytes) there fit
 
-takes_fit : (p : MailParts) (id : ℕ) (k : MessageBuffer) (bytes : List ℕ) (takes : Bool) → 1 ≤ id → buffer_at p.table id ≡ Some k → AreFit p.base p.table →
+takes_fit : (p : MailParts) (id : ℕ) (k : MessageBuffer) (bytes : List ℕ) (takes : Bool) → buffer_at p.table id ≡ Some k → AreFit p.base p.table →
     FitAfter (cond takes (sent_at_once p id k (none_waits (senders p.base k id)) (first_of (receivers p.base id)) k.messages bytes) None)
-takes_fit p id k bytes true low there fit = at_once_fit p id k (none_waits (senders p.base k id)) (first_of (receivers p.base id)) k.messages bytes low there fit
-takes_fit p id k bytes false low there fit = tt
+takes_fit p id k bytes true there fit = at_once_fit p id k (none_waits (senders p.base k id)) (first_of (receivers p.base id)) k.messages bytes there fit
+takes_fit p id k bytes false there fit = tt
 
-posted_fit : (p : MailParts) (id : ℕ) (bytes : List ℕ) (slot : Option MessageBuffer) → 1 ≤ id → buffer_at p.table id ≡ slot → AreFit p.base p.table → FitAfter (posted p id bytes slot)
-posted_fit p id bytes None low there fit = tt
-posted_fit p id bytes (Some k) low there fit = takes_fit p id k bytes (takes_length (length bytes) k) low there fit
+posted_fit : (p : MailParts) (id : ℕ) (bytes : List ℕ) (slot : Option MessageBuffer) → buffer_at p.table id ≡ slot → AreFit p.base p.table → FitAfter (posted p id bytes slot)
+posted_fit p id bytes None there fit = tt
+posted_fit p id bytes (Some k) there fit = takes_fit p id k bytes (takes_length (length bytes) k) there fit
 
-post_fit : (p : MailParts) (id : ℕ) (bytes : List ℕ) → 1 ≤ id → AreFit p.base p.table → FitAfter (post p id bytes)
+post_fit : (p : MailParts) (id : ℕ) (bytes : List ℕ) → AreFit p.base p.table → FitAfter (post p id bytes)
 unfolding post
-post_fit p id bytes low fit = posted_fit p id bytes (buffer_at p.table id) low refl fit
+post_fit p id bytes fit = posted_fit p id bytes (buffer_at p.table id) refl fit
 
 after_fit : (p : MailParts) (sent : Option MailParts) → AreFit p.base p.table → FitAfter sent → AreFit (unwrap_or sent p).base (unwrap_or sent p).table
 after_fit p None fit more = fit
 after_fit p (Some q) fit more = more
 
 -- a send of the kernel leaves what it asks for
-pub sent_fit : (p q : MailParts) (id : ℕ) (bytes : List ℕ) → 1 ≤ id → AreFit p.base p.table → q ≡ unwrap_or (post p id bytes) p → AreFit q.base q.table
-sent_fit p q id bytes low fit is = subst (λ (r : MailParts). AreFit r.base r.table) (sym is) (after_fit p (post p id bytes) fit (post_fit p id bytes low fit))
+pub sent_fit : (p q : MailParts) (id : ℕ) (bytes : List ℕ) → AreFit p.base p.table → q ≡ unwrap_or (post p id bytes) p → AreFit q.base q.table
+sent_fit p q id bytes fit is = subst (λ (r : MailParts). AreFit r.base r.table) (sym is) (after_fit p (post p id bytes) fit (post_fit p id bytes fit))
 
 -- without a buffer nothing is sent
 pub nothing_posted : (p : MailParts) (id : ℕ) (bytes : List ℕ) → buffer_at p.table id ≡ None → post p id bytes ≡ None

@@ -1,5 +1,5 @@
 -- The moves on requests, where what stands in the slot is known.
-use Rattle.std.proofs.Common.{◌≡◌, ℕ, ◌+◌, Bool, true, false, List, [], ◌∷◌, ◌++◌, Option, Some, None, refl, ap, sym, subst, ◌∙◌, length}
+use Rattle.std.proofs.Common.{◌≡◌, ℕ, ◌+◌, ◌-◌, Bool, true, false, List, [], ◌∷◌, ◌++◌, Option, Some, None, refl, ap, sym, ◌∙◌, arith, length}
 use Rattle.std.specs.Prelude.{slice_set}
 use Rattle.tk_types.specs.declared.error_code.Er.{Er}
 use Rattle.kernel_model.specs.Words.Orders.{entry, without}
@@ -7,6 +7,7 @@ use Rattle.device_model.specs.declared.rows.Life.{Life}
 use Rattle.device_model.specs.declared.rows.Life.TheVariants.{AtDriver, Ended, Queued}
 use Rattle.device_model.specs.declared.messages.Request.{Request}
 use Rattle.device_model.specs.Devices.Tables.{Row, has_ended, is_at_driver, is_queued, joined, request_of}
+use Rattle.device_model.specs.RoomyBytes.{RoomyBytes, bytes_within}
 use Rattle.device_model.specs.Units.Function.{IsWhole}
 use Rattle.dev_layer.specs.Requests.{Requests, accepted_slot, ended_slot, handed_slot, life_test, queues_some, request_accepted, request_ended, request_handed}
 
@@ -66,11 +67,21 @@ ended_at rq now id size error given row ended is there so has behind =
 pub same_row : (slots : List (Option Row)) (id : ℕ) (one other : Row) → entry slots id ≡ Some one → entry slots id ≡ Some other → one ≡ other
 same_row slots id one other first second = cc (first, second)
 
--- the request that a driver gets is whole, where its row was
-pub whole_request : (slot : Option Row) (id number : ℕ) (row : Row) (request : Request) → slot ≡ Some row → request ≡ request_of id number row → queues_some slot ≡ true →
-    (is_queued row.life ≡ true → row.write ≡ true → length row.bytes ≡ row.size) → IsWhole request
-whole_request slot id number row request there is waits whole =
-    subst IsWhole (sym is) (record { size = whole (ap queues_some (sym there) ∙ waits) })
+-- a row that is known to wait
+pub waits_in : (slot : Option Row) (row : Row) → slot ≡ Some row → queues_some slot ≡ true → is_queued row.life ≡ true
+waits_in slot row there waits = ap queues_some (sym there) ∙ waits
+
+-- the request that a driver gets is whole, where its row is full or empty
+pub whole_request : (request : Request) (size : ℕ) (bytes : RoomyBytes) → request.bytes ≡ bytes → request.size ≡ size → bytes ≡ bytes_within size bytes.items →
+    (request.write ≡ true → length bytes.items ≡ size) → (request.write ≡ false → bytes.items ≡ []) → IsWhole request
+whole_request request size bytes is sized place full empty = record {
+  size = λ write. ap (λ (b : RoomyBytes). length b.items) is ∙ full write ∙ sym sized;
+  none = λ read. ap (λ (b : RoomyBytes). b.items) is ∙ empty read;
+  room = λ read.
+      let room : request.bytes.room ≡ size - length bytes.items = ap (λ (b : RoomyBytes). b.room) (is ∙ place) in
+      let none : length bytes.items ≡ 0 = ap (λ (xs : List ℕ). length xs) (empty read) in
+      omega (arith, sized, room, none);
+}
 
 life_not_ended : (life : Life) → is_queued life ≡ true → has_ended life ≡ false
 life_not_ended Queued is = refl

@@ -64,6 +64,22 @@ moved_fits kind store request asked (Cut count) may =
     cut_fits count (count_of kind (begin store request) request) (available kind store.bytes request) (whole_fits kind store request)
     (second_of asked (count == 0 || (count % 64 == 0 && nat_lt count (count_of kind (begin store request) request))) may)
 
+count_least : (none spoilt : Bool) (size room : ℕ) → cond none 0 (cond spoilt 0 (min size room)) ≤ size
+count_least true spoilt size room = omega arith
+count_least false true size room = omega arith
+count_least false false size room = omega arith
+
+whole_asked : (kind : Kind) (begun : Store) (request : Request) → count_of kind begun request ≤ request.size
+whole_asked kind begun request = count_least (request.size == 0) (is_spoilt kind begun.begun) request.size (available kind begun.bytes request)
+
+-- nor does it move more than was asked for
+pub moved_asked : (kind : Kind) (store : Store) (request : Request) (asked : Bool) (how : How) → is_allowed kind store (record { request = request; asked = asked }) how ≡ true → count_by_end kind store request how ≤ request.size
+unfolding may_cut
+moved_asked kind store request asked Done may = whole_asked kind (begin store request) request
+moved_asked kind store request asked (Cut count) may =
+    cut_fits count (count_of kind (begin store request) request) request.size (whole_asked kind (begin store request) request)
+    (second_of asked (count == 0 || (count % 64 == 0 && nat_lt count (count_of kind (begin store request) request))) may)
+
 available_if : (grows : Bool) (held start : ℕ) → held ≤ 65536 → cond grows (65536 - held) (held - start) ≤ 65536
 available_if true held start short = omega arith
 available_if false held start short = omega (arith, short)

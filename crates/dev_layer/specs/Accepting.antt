@@ -1,5 +1,5 @@
 -- How a request is accepted, beside the definitions.
-use Rattle.std.specs.Prelude.{ℕ, ◌≡◌, ◌≤◌, ◌==◌, Bool, true, false, not, ◌||◌, ◌&&◌, ℤ, negsuc, int_le, if◌then◌else◌, List, [], ◌∷◌, Option, Some, None, length}
+use Rattle.std.specs.Prelude.{ℕ, ◌==◌, Bool, true, false, not, ◌||◌, ◌&&◌, ℤ, negsuc, int_le, if◌then◌else◌, List, [], ◌∷◌, Option, Some, None}
 use Rattle.tk_types.specs.declared.answer.Who.{Who}
 use Rattle.tk_types.specs.declared.error_code.Er.{Er}
 use Rattle.tk_types.specs.declared.error_code.Er.TheVariants as er
@@ -8,16 +8,11 @@ use Rattle.kernel_model.specs.Words.Checks.{Check, ◌otherwise◌, within}
 use Rattle.kernel_model.specs.Tasks.Base.{Base}
 use Rattle.kernel_model.specs.Tasks.Marks.{allows}
 use Rattle.object_model.specs.Mails.Calls.{is_inside}
-use Rattle.object_model.specs.Mails.Tables.{Mails, buffer_at, has_mbf}
+use Rattle.object_model.specs.Mails.Tables.{Mails, has_mbf}
 use Rattle.device_model.specs.Devices.Calls.{any_waits, has_request, is_open, names_request, one_waits, permits, somebody_waits}
 use Rattle.device_model.specs.Devices.Endings.{DevParts}
 use Rattle.device_model.specs.Devices.Tables.{Devices}
 use Rattle.dev_layer.specs.declared.requesting.Wanted.{Wanted}
-
--- there are no more slots for message buffers than there are IDs, and none has the ID 0
-pub record AreNamed (m : Mails) : Type 0 where
-  pub few : length m.buffers ≤ 65
-  pub unnamed : buffer_at m 0 ≡ None
 
 -- the message buffer with that ID, or 0 for none, where there is one
 abbrev pub buffer_in : Mails → ℕ → Option ℕ

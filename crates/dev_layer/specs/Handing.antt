@@ -1,5 +1,5 @@
 -- When requests go to drivers.
-use Rattle.std.specs.Prelude.{ℕ, ◌<◌, ◌^◌, Bool, true, false, List, Option}
+use Rattle.std.specs.Prelude.{ℕ, ◌<◌, ◌+◌, ◌^◌, nat_le, Bool, true, false, List, Option, Some, None}
 use Rattle.tk_types.specs.declared.run.Mode.{Mode}
 use Rattle.tk_types.specs.declared.run.Mode.TheVariants.{Free, Sync}
 use Rattle.kernel_model.specs.Tasks.Base.{Base}
@@ -14,9 +14,14 @@ use Rattle.dev_layer.specs.Tables.{with_requests}
 abbrev pub with_parts : Devices → List (Option Link) → Requests → Devices
 with_parts dv links rq = record (with_requests dv rq) { links = links }
 
--- fewer than 2^63 requests were handed over to any driver
-pub record HaveFew (links : List (Option Link)) : Type 0 where
-  pub few : (d : ℕ) → number_in (entry links d) < 2 ^ 63
+-- whether as many requests were handed over to a driver as can be counted; so many never are
+abbrev pub is_worn : Option Link → Bool
+is_worn None = false
+is_worn (Some link) = nat_le (2 ^ 64) (link.number + 1)
+
+-- one request more can be counted for any driver
+pub record MayCount (links : List (Option Link)) : Type 0 where
+  pub few : (d : ℕ) → number_in (entry links d) + 1 < 2 ^ 64
 
 -- in free mode each driver without a request gets one; in sync mode one driver does where the machine is idle
 abbrev pub handed_over : Mode → Bool → Base → Devices → Devices

@@ -79,4 +79,4 @@ link_ended link how = ended_given link how link.given
 
 -- the bytes of a store once a request's first ones were moved, so many
 abbrev pub stored : Kind → List ℕ → Request → ℕ → List ℕ
-stored kind bytes request count = if request.write then written kind bytes request (take count request.bytes) else bytes
+stored kind bytes request count = if request.write then written kind bytes request (take count request.bytes.items) else bytes

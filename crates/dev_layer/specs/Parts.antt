@@ -9,7 +9,6 @@ use Rattle.kernel_model.specs.Tasks.Base.{Base}
 use Rattle.kernel_model.specs.Tasks.Queues.{AreOfOrder}
 use Rattle.object_model.specs.Mails.Tables.{Mails}
 use Rattle.mail_buffer.specs.Parts.{AreQueued as MailsQueued, HaveAsked}
-use Rattle.dev_layer.specs.Accepting.{AreNamed}
 use Rattle.device_model.specs.Devices.Tables.{Devices}
 use Rattle.device_model.specs.Devices.Endings.{DevParts}
 use Rattle.device_model.specs.Devices.Calls.{DevDone}
@@ -29,7 +28,6 @@ pub record AreQueued (b : Base) : Type 0 where
 pub record AreFit (b : Base) (m : Mails) : Type 0 where
   pub queued : MailsQueued b m
   pub asked : HaveAsked b m
-  pub named : AreNamed m
 
 -- the calls that take memory of the host
 abbrev pub TakesMemory : DeviceCall → Type 0

@@ -6,6 +6,7 @@ use Rattle.kernel_model.specs.LawWords.Once.{times}
 use Rattle.kernel_model.specs.Words.Orders.{entry, without}
 use Rattle.device_model.specs.declared.rows.Life.{Life}
 use Rattle.device_model.specs.declared.rows.Life.TheVariants.{AtDriver, Ended}
+use Rattle.device_model.specs.RoomyBytes.{RoomyBytes, bytes_within}
 use Rattle.device_model.specs.Devices.Tables.{Row, has_ended, is_queued, is_at_driver, joined, queues_on}
 
 -- an ended request has moved no more bytes than there are
@@ -13,11 +14,14 @@ abbrev pub IsShort : Life → Type 0
 IsShort (Ended size error) = size ≤ 65536
 IsShort _ = Unit {0}
 
--- a request: its bytes lie inside the script's memory, one that waits for its driver has them all, twice
-pub record IsRow (descriptor address size : ℕ) (write : Bool) (bytes copy : List ℕ) (life : Life) : Type 0 where
+-- a request: its bytes lie inside the script's memory. One that waits for its driver has a place for all of them, twice; that of
+-- a write is full, and that of a read is empty
+pub record IsRow (descriptor address size : ℕ) (write : Bool) (bytes copy : RoomyBytes) (life : Life) : Type 0 where
   pub descriptor_small : descriptor ≤ 32
   pub inside : address + size ≤ 65536
-  pub whole : is_queued life ≡ true → write ≡ true → length bytes ≡ size
+  pub place : is_queued life ≡ true → bytes ≡ bytes_within size bytes.items
+  pub full : is_queued life ≡ true → write ≡ true → length bytes.items ≡ size
+  pub empty : is_queued life ≡ true → write ≡ false → bytes.items ≡ []
   pub alike : copy ≡ bytes
   pub short : IsShort life
 

@@ -1,6 +1,6 @@
 -- The tables of the devices have a slot for each ID, and a place for each task.
 use Rattle.std.specs.Prelude.{ℕ, ◌≡◌, ◌+◌, ◌≤◌, List, Option, length, Some, None}
-use Rattle.std.specs.List.{All}
+use Rattle.std.specs.List.{All, slice_index_or}
 use Rattle.tk_types.specs.declared.script.Device.{Device}
 use Rattle.kernel_model.specs.Words.Orders.{entry}
 use Rattle.device_model.specs.declared.rows.Opened.{Opened}
@@ -20,6 +20,11 @@ abbrev pub IsWish : Wish → Type 0
 IsWish (wish.Acceptance transfer stays) = IsInside transfer
 IsWish _ = Unit {0}
 
+-- a wish for an acceptance is of a descriptor
+abbrev pub HasDescriptor : Wish → Type 0
+HasDescriptor (wish.Acceptance transfer stays) = transfer.descriptor ≤ 32
+HasDescriptor _ = Unit {0}
+
 -- an open descriptor is one of a device
 abbrev pub IsOpened : Option Opened → Type 0
 IsOpened None = Unit {0}
@@ -30,6 +35,7 @@ pub record AreTables (buffers : List ℕ) (opened : List (Option Opened)) (wishe
   pub all_opened : length opened ≡ 33
   pub all_wishes : length wishes ≡ 256
   pub fit : (n : ℕ) → IsOpened (entry opened n)
+  pub wished : (t : ℕ) → IsWish (slice_index_or wishes t wish.Nothing)
 
 -- at most eight devices, and the numbers of their kinds are in range
 pub record AreDevices (devices : List Device) : Type 0 where

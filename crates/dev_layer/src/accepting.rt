@@ -1,12 +1,12 @@
 //! Requests are accepted.
 
-ghost use Rattle.std.specs.Prelude.{◌≡◌, ◌≤◌, ◌+◌, ◌<◌, ◌^◌, ◌∷◌, OnErr, OnOk, [], length, true};
+ghost use Rattle.std.specs.Prelude.{◌≡◌, ◌≤◌, ◌+◌, ◌<◌, ◌^◌, ◌∷◌, OnErr, OnOk, [], false, length, true};
 ghost use Rattle.kernel_model.specs.Tasks.Base.{Base};
 ghost use Rattle.device_model.specs.declared.rows.Life.TheVariants.{Ended};
 ghost use Rattle.device_model.specs.Devices.Memory.{four_bytes, number_of, read_bytes, write_bytes};
 ghost use Rattle.device_model.specs.Devices.Requests.{accept, accept_event, copied, row_of};
 ghost use Rattle.device_model.specs.Devices.Tables.{accepted, buffer_of};
-ghost use Rattle.dev_layer.specs.Accepting.{AreNamed, buffer_in};
+ghost use Rattle.dev_layer.specs.Accepting.{buffer_in};
 ghost use Rattle.dev_layer.specs.Parts.{parts_of};
 ghost use Rattle.dev_layer.specs.Tables.{IsInside};
 
@@ -26,7 +26,9 @@ const BUFFER_SIZE: u32 = 4;
 fn written_bytes(memory: &Memory, transfer: Transfer) -> &[u8]
     requires { IsInside transfer }
     ensures copied { result.now ≡ copied transfer memory.now }
-    ensures whole { transfer.write ≡ true → length result.now ≡ transfer.size }
+    ensures full { transfer.write ≡ true → length result.now ≡ transfer.size }
+    ensures empty { transfer.write ≡ false → result.now ≡ [] }
+    ensures fits { length result.now ≤ transfer.size }
 {
     if transfer.write {
         return bytes_at(memory, transfer.address, transfer.size);
@@ -38,7 +40,7 @@ fn written_bytes(memory: &Memory, transfer: Transfer) -> &[u8]
 fn accept_ended(table: &mut Devices, device: u8, id: u8, transfer: Transfer, size: u32, error: Er)
     requires inside { IsInside transfer }
     requires within { id ≤ 64 }
-    requires few { table.old.serial < 2 ^ 63 }
+    requires few { table.old.serial + 1 < 2 ^ 64 }
     requires short { size ≤ 65536 }
     ensures { table.new ≡ accepted table.old id (row_of device transfer [] (Ended size error)) }
 {
@@ -67,9 +69,9 @@ fn number_of(four: &[u8]) -> u32
 
 /// The ID with that number, where there is such a message buffer; 0 stands for none, and there is always that.
 fn named_buffer(mails: &Mails, number: u32) -> Option<u8>
-    requires { AreNamed mails.now }
     ensures { result ≡ buffer_in mails.now number }
 {
+    mails.known_of_buffers();
     if number == 0 {
         return Some(0);
     }
@@ -92,8 +94,7 @@ fn accept_event(
     requires device { device ≤ 8 }
     requires inside { IsInside transfer }
     requires within { id ≤ 64 }
-    requires few { table.old.serial < 2 ^ 63 }
-    requires named { AreNamed mails.now }
+    requires few { table.old.serial + 1 < 2 ^ 64 }
     ensures { (b : Base) → accept_event (parts_of b table.old mails.now memory.old) device id transfer ≡ parts_of b table.new mails.now memory.new }
 {
     if transfer.size == 0 {
@@ -120,7 +121,7 @@ fn accept_event(
 }
 
 /// A request is accepted by a device under an ID that is free; the bytes to write are copied. An error says that there was
-/// no memory for them, and that nothing changed.
+/// no memory for them, or no serial for one more request, and that nothing changed.
 #[tactic(auto, unfolding(device_model::specs::Devices::Requests::accept))]
 pub(crate) fn accept(
     table: &mut Devices,
@@ -133,11 +134,12 @@ pub(crate) fn accept(
     requires device { device ≤ 8 }
     requires inside { IsInside transfer }
     requires within { id ≤ 64 }
-    requires few { table.old.serial < 2 ^ 63 }
-    requires named { AreNamed mails.now }
     ensures ok { OnOk result ((b : Base) → accept (parts_of b table.old mails.now memory.old) device id transfer ≡ parts_of b table.new mails.now memory.new) }
     ensures err { OnErr result ((table.new ≡ table.old) × (memory.new ≡ memory.old)) }
 {
+    if !table.has_serial() {
+        return Err(AllocError);
+    }
     if transfer.start.is_none() {
         accept_event(table, mails, memory, device, id, transfer);
         return Ok(());

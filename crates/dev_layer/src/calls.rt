@@ -14,8 +14,9 @@ use task_machine::Memory;
 use tk_types::{DeviceCall, Outcome, Who};
 
 /// A call on devices, by its row of the table of calls: the error of the first check that fails, with nothing changed, or its
-/// effect up to the first settling. Memory of the host is taken by the four calls that make a request, for bytes that are
-/// written, and by `tk_cls_dev`, for the message to a driver; where there is none of it, these calls change nothing.
+/// effect up to the first settling. Memory of the host is taken by the four calls that make a request, for its bytes or for the room
+/// of those that it reads, and by `tk_cls_dev`, for the message to a driver; where there is none of it, these calls change nothing.
+/// The same error would come from the request that is the 2^64th of all, as none ever is.
 #[tactic(auto, unfolding(device_model::specs::Devices::Calls::device_call))]
 pub fn call(
     base: &mut Base,
@@ -27,7 +28,6 @@ pub fn call(
 ) -> Result<Outcome, AllocError>
     requires few { base.old.made < 2 ^ 63 }
     requires early { base.old.time < 2 ^ 63 }
-    requires serials { table.old.serial < 2 ^ 63 }
     requires queued { AreQueued base.old }
     requires fit { AreFit base.old mails.old }
     ensures ok { IfOk result (λ outcome. device_call (parts_of base.old table.old mails.old memory.old) who call.now ≡ left_with (parts_of base.new table.new mails.new memory.new) outcome) }

@@ -4,7 +4,6 @@ ghost use Rattle.std.specs.Prelude.{◌≡◌, ◌≤◌, ◌<◌, ◌^◌, IfOk
 ghost use Rattle.std.specs.Option.{is_some};
 ghost use Rattle.object_model.specs.Mails.Tables.{Mails as MailsView};
 ghost use Rattle.device_model.specs.Devices.Servings.{serve_acceptances, serve_closes, serve_endings};
-ghost use Rattle.dev_layer.specs.Accepting.{AreNamed};
 ghost use Rattle.dev_layer.specs.Parts.{AreFit, AreQueued, parts_of};
 ghost use Rattle.dev_layer.specs.Serving.{at_close, at_device, at_ending, serve_object};
 
@@ -26,7 +25,7 @@ const FIRST_CLOSE: u32 = 616;
 
 /// Serves once at the object with that number, where that can be: an acceptance, an ending, a close or the suspension.
 /// False, with nothing changed, comes exactly where it can't. Memory of the host is taken for the bytes of a request that is
-/// accepted; where there is none of it nothing changes.
+/// accepted, or for their room; where there is none of it nothing changes, nor would it at the 2^64th request of all.
 pub fn serve(
     base: &mut Base,
     table: &mut Devices,
@@ -34,7 +33,6 @@ pub fn serve(
     memory: &mut Memory,
     obj: u32,
 ) -> Result<bool, AllocError>
-    requires serials { table.old.serial < 2 ^ 63 }
     requires queued { AreQueued base.old }
     requires fit { AreFit base.old mails.old }
     ensures served { IfOk result (λ served. served ≡ is_some (serve_object (parts_of base.old table.old mails.old memory.old) obj)) }
@@ -70,9 +68,7 @@ fn serve_device(
     memory: &mut Memory,
     device: u8,
 ) -> Result<bool, AllocError>
-    requires serials { table.old.serial < 2 ^ 63 }
     requires queued { AreQueued base.old }
-    requires named { AreNamed mails.now }
     ensures served { IfOk result (λ served. served ≡ is_some (at_device (parts_of base.old table.old mails.now memory.old) device)) }
     ensures left { OnOk result (parts_of base.new table.new mails.now memory.new ≡ unwrap_or (at_device (parts_of base.old table.old mails.now memory.old) device) (parts_of base.old table.old mails.now memory.old)) }
     ensures err { OnErr result (parts_of base.new table.new mails.now memory.new ≡ parts_of base.old table.old mails.now memory.old) }
@@ -111,7 +107,8 @@ fn serve_taken_close(base: &mut Base, table: &mut Devices, descriptor: u8) -> bo
 }
 
 /// Serves once at the first device by ID whose acceptance can serve. False, with nothing changed, comes exactly where none
-/// can. Memory of the host is taken for the bytes of the request; where there is none of it nothing changes.
+/// can. Memory of the host is taken for the bytes of the request, or for their room; where there is none of it nothing changes,
+/// nor would it at the 2^64th request of all.
 #[tactic(auto, unfolding(device_model::specs::Devices::Servings::serve_acceptances))]
 pub fn serve_first_acceptance(
     base: &mut Base,
@@ -119,9 +116,7 @@ pub fn serve_first_acceptance(
     mails: &Mails,
     memory: &mut Memory,
 ) -> Result<bool, AllocError>
-    requires serials { table.old.serial < 2 ^ 63 }
     requires queued { AreQueued base.old }
-    requires named { AreNamed mails.now }
     ensures served { IfOk result (λ served. served ≡ is_some (serve_acceptances (parts_of base.old table.old mails.now memory.old))) }
     ensures left { OnOk result (parts_of base.new table.new mails.now memory.new ≡ unwrap_or (serve_acceptances (parts_of base.old table.old mails.now memory.old)) (parts_of base.old table.old mails.now memory.old)) }
     ensures err { OnErr result (parts_of base.new table.new mails.now memory.new ≡ parts_of base.old table.old mails.now memory.old) }

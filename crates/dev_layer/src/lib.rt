@@ -17,6 +17,8 @@ mod rows;
 mod serving;
 mod suspending;
 mod table;
+#[cfg(test)]
+mod tests;
 mod units;
 mod waiters;
 mod waiting;

@@ -1,6 +1,6 @@
 //! What the kernel has to do with one device: its own copy of the unit's store, and the request that is with the driver.
 
-ghost use Rattle.std.specs.Prelude.{◌≡◌, ◌≤◌, ◌+◌, ◌<◌, ◌^◌, IfOk, IfSome, None, Some, [], bytes_eq, length, option_copied, replicate, take, true, vec_capacity};
+ghost use Rattle.std.specs.Prelude.{◌≡◌, ◌≤◌, ◌+◌, ◌<◌, ◌^◌, IfOk, IfSome, None, Some, [], bytes_eq, if◌then◌else◌, length, option_copied, replicate, take, true, vec_capacity};
 ghost use Rattle.std.specs.Option.{is_some, option_map};
 ghost use Rattle.device_model.specs.Devices.Endings.{expected_given, is_allowed, says, served_of};
 ghost use Rattle.device_model.specs.Devices.Tables.{Given as GivenView, link_start, request_in};
@@ -9,7 +9,7 @@ ghost use Rattle.device_model.specs.Units.Stores.{first_bytes, is_log};
 ghost use Rattle.dev_layer.specs.Messages.{abort_given};
 ghost use Rattle.dev_layer.specs.Links.{IsGiven, IsKind, IsServed, allows_end, count_by_end, fits_given, given_asked, link_ended, link_hands, stored};
 
-use crate::rows::copied;
+use crate::rows::bytes_within;
 use crate::units::{LOG_LIMIT, Moved, begun_with, content_of, is_allowed, is_log, served};
 use device_model::messages::{Ending, Request};
 use std::alloc::{AllocError, Global};
@@ -240,8 +240,9 @@ impl Link {
             return Ok(None);
         }
         let moved = self.moved(given, how);
-        let bytes = copied(alloc, self.content(given, moved.count))?;
+        let content = self.content(given, moved.count);
         let request = given.request();
+        let bytes = bytes_within(alloc, room_back(request), content)?;
         Ok(Some(Ending {
             device,
             request: request.id,
@@ -288,6 +289,17 @@ impl Link {
     }
 }
 
+/// For how many bytes an ending of a request has a place: for those that it reads.
+fn room_back(request: &Request) -> usize
+    ensures { result ≡ (if request.now.write then 0 else request.now.bytes.room) }
+{
+    if request.write {
+        0
+    } else {
+        request.bytes.room()
+    }
+}
+
 /// Whether two runs of bytes are the same.
 fn same_bytes(bytes: &[u8], others: &[u8]) -> bool
     ensures { result ≡ bytes_eq bytes.now others.now }
@@ -316,7 +328,7 @@ fn says(ending: &Ending, request: &Request, size: u32, error: Er, content: &[u8]
 
 /// The bytes that are written, of so many.
 fn written_of(request: &Request, count: usize) -> &[u8]
-    ensures written { result.now ≡ take count request.now.bytes }
+    ensures written { result.now ≡ take count request.now.bytes.items }
     ensures few { length result.now ≤ count }
 {
     let all = request.bytes.as_slice();

@@ -9,16 +9,18 @@ ghost use Rattle.device_model.specs.Devices.Endings.{expected_link, served_of};
 ghost use Rattle.device_model.specs.Devices.Handing.{has_given, link_emptied, out_of};
 ghost use Rattle.device_model.specs.Devices.Tables.{Given as GivenView, Link as LinkView, given_in, link_start, request_in};
 ghost use Rattle.device_model.specs.Units.Function.{IsWhole};
+ghost use Rattle.dev_layer.specs.Handing.{is_worn};
 ghost use Rattle.dev_layer.specs.Links.{IsKind, IsServed};
 ghost use Rattle.dev_layer.specs.Messages.{abort_number, allows_link, ended_entry, fits_link, link_asking, links_asked, links_handed, number_in, out_in, put_out, receiver, slot_hands, with_out};
 
 use crate::link::Link;
 use crate::rows::Handed;
 use crate::units::Moved;
+use device_model::bytes::Bytes;
 use device_model::messages::{Ending, Message, Request};
 use std::alloc::{AllocError, Global};
 use std::marker::Model;
-use tk_types::{Device, How, Sequence};
+use tk_types::{Device, How};
 
 /// The devices by ID, and the messages to their drivers that weren't taken yet, by device and for each in their order.
 #[derive(Drop)]
@@ -93,6 +95,23 @@ fn any_given(slots: &[Option<Link>]) -> bool
     slots.iter().any(|slot| has_given(slot))
 }
 
+/// Whether as many requests were handed over to the driver in a slot as can be counted.
+fn is_worn(slot: &Option<Link>) -> bool
+    ensures { result ≡ is_worn slot.now }
+{
+    match slot {
+        None => false,
+        Some(link) => link.number() == u64::MAX,
+    }
+}
+
+/// Whether as many requests were handed over to some driver as can be counted.
+fn any_worn(slots: &[Option<Link>]) -> bool
+    ensures { result ≡ list_any is_worn slots.now }
+{
+    slots.iter().any(|slot| is_worn(slot))
+}
+
 /// What stands in a slot.
 fn in_slot(slots: &[Option<Link>], device: u8) -> Option<&Link>
     ensures { option_copied result ≡ entry slots.now device }
@@ -148,6 +167,14 @@ impl Links {
         let _slots = &self.slots;
     }
 
+    /// States, at no cost, that there are eight devices at most, and none with the ID 0.
+    pub(crate) fn known_of_devices(&self)
+        ensures few { length self.now.links ≤ 9 }
+        ensures unnamed { entry self.now.links 0 ≡ None }
+    {
+        let _slots = &self.slots;
+    }
+
     /// The ID of the request that is with the driver of a device.
     pub(crate) fn at_driver(&self, device: u8) -> Option<u8>
         ensures { result ≡ request_in (given_in (entry self.now.links device)) }
@@ -184,6 +211,14 @@ impl Links {
             None => 0,
             Some(link) => link.number(),
         }
+    }
+
+    /// Whether as many requests were handed over to some driver as can be counted; so many never are.
+    #[tactic(auto, using(crate::proofs::Attached::worn_attached))]
+    pub(crate) fn any_worn(&self) -> bool
+        ensures { result ≡ list_any is_worn self.now.links }
+    {
+        any_worn(&self.slots)
     }
 
     /// The ending of that kind that is fit now for a device; `None` where none is fit.
@@ -300,7 +335,7 @@ fn ask_in(slots: &mut Vec<Option<Link>>, device: u8)
 }
 
 /// A request as the message of it has it.
-fn for_driver(request: &Request, copy: Sequence<u8>) -> Request
+fn for_driver(request: &Request, copy: Bytes) -> Request
     requires { copy ≡ request.now.bytes }
     ensures { result ≡ request.now }
 {

@@ -8,7 +8,7 @@ ghost use Rattle.object_model.specs.Mails.Calls.{is_inside};
 ghost use Rattle.object_model.specs.Mails.Tables.{Mails as MailsView};
 ghost use Rattle.device_model.specs.Devices.Calls.{claim, device_of, is_open, permits_in, request, request_whole, requested, stayed, stays, start_of, transfer_of, waits_or_ends};
 ghost use Rattle.device_model.specs.Devices.Tables.{free_request, opened_at, with_wish};
-ghost use Rattle.dev_layer.specs.Accepting.{AreNamed, access_checks, number_checks};
+ghost use Rattle.dev_layer.specs.Accepting.{access_checks, number_checks};
 ghost use Rattle.dev_layer.specs.Parts.{AreQueued, left_with, parts_of};
 ghost use Rattle.device_model.specs.Devices.Requests.{claimed};
 ghost use Rattle.dev_layer.specs.Tables.{IsInside, IsWish};
@@ -224,11 +224,9 @@ fn accept_or_wait(
 ) -> Result<Outcome, AllocError>
     requires few { base.old.made < 2 ^ 63 }
     requires early { base.old.time < 2 ^ 63 }
-    requires serials { table.old.serial < 2 ^ 63 }
     requires low { 1 ≤ device }
     requires high { device ≤ 8 }
     requires queued { AreQueued base.old }
-    requires named { AreNamed mails.now }
     requires inside { IsInside transfer }
     requires within { id ≤ 64 }
     requires free { id ≡ free_request table.old }
@@ -260,11 +258,9 @@ fn accept_or_stay(
 ) -> Result<Outcome, AllocError>
     requires few { base.old.made < 2 ^ 63 }
     requires early { base.old.time < 2 ^ 63 }
-    requires serials { table.old.serial < 2 ^ 63 }
     requires low { 1 ≤ device }
     requires high { device ≤ 8 }
     requires queued { AreQueued base.old }
-    requires named { AreNamed mails.now }
     requires inside { IsInside transfer }
     requires within { id ≤ 64 }
     requires free { id ≡ free_request table.old }
@@ -295,9 +291,7 @@ pub(crate) fn request(
 ) -> Result<Outcome, AllocError>
     requires few { base.old.made < 2 ^ 63 }
     requires early { base.old.time < 2 ^ 63 }
-    requires serials { table.old.serial < 2 ^ 63 }
     requires queued { AreQueued base.old }
-    requires named { AreNamed mails.now }
     ensures ok { IfOk result (λ outcome. request (parts_of base.old table.old mails.now memory.old) who wanted.now.write wanted.now.descriptor wanted.now.start wanted.now.address wanted.now.size timeout ≡ left_with (parts_of base.new table.new mails.now memory.new) outcome) }
     ensures err { OnErr result ((base.new ≡ base.old) × ((table.new ≡ table.old) × (memory.new ≡ memory.old))) }
 {
@@ -339,9 +333,7 @@ pub(crate) fn request_whole(
 ) -> Result<Outcome, AllocError>
     requires few { base.old.made < 2 ^ 63 }
     requires early { base.old.time < 2 ^ 63 }
-    requires serials { table.old.serial < 2 ^ 63 }
     requires queued { AreQueued base.old }
-    requires named { AreNamed mails.now }
     ensures ok { IfOk result (λ outcome. request_whole (parts_of base.old table.old mails.now memory.old) who wanted.now.write wanted.now.descriptor wanted.now.start wanted.now.address wanted.now.size ≡ left_with (parts_of base.new table.new mails.now memory.new) outcome) }
     ensures err { OnErr result ((base.new ≡ base.old) × ((table.new ≡ table.old) × (memory.new ≡ memory.old))) }
 {

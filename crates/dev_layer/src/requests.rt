@@ -1,6 +1,6 @@
 //! The requests by ID, in the orders in which they wait for drivers and in which they have ended.
 
-ghost use Rattle.std.specs.Prelude.{◌≡◌, ◌≤◌, ◌<◌, ◌^◌, ◌&&◌, IfOk, IfSome, None, Some, [], count_by, drop, length, option_copied, replicate, true};
+ghost use Rattle.std.specs.Prelude.{◌≡◌, ◌≤◌, ◌+◌, ◌<◌, ◌^◌, ◌&&◌, IfOk, IfSome, None, Some, [], count_by, drop, length, option_copied, replicate, true};
 ghost use Rattle.std.specs.List.{find, list_any};
 ghost use Rattle.std.specs.Option.{is_some};
 ghost use Rattle.kernel_model.specs.Words.Orders.{entry, free_from};
@@ -237,7 +237,7 @@ impl Requests {
     /// ended. Where the ID is taken nothing changes.
     pub(crate) fn accept(&mut self, id: u8, mut row: Row)
         requires within { id ≤ 64 }
-        requires few { self.old.serial < 2 ^ 63 }
+        requires few { self.old.serial + 1 < 2 ^ 64 }
         ensures { self.new ≡ request_accepted self.old id row }
     {
         if self.is_taken(id) {

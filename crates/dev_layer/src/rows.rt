@@ -1,19 +1,22 @@
 //! One request.
 
-ghost use Rattle.std.specs.Prelude.{◌≡◌, ◌≤◌, ◌+◌, IfOk, [], length, true, unwrap_or};
+ghost use Rattle.std.specs.Prelude.{◌≡◌, ◌≤◌, ◌+◌, IfOk, [], false, length, true, unwrap_or};
 ghost use Rattle.device_model.specs.declared.rows.Life.TheVariants.{AtDriver, Ended, Queued};
 ghost use Rattle.device_model.specs.Devices.Requests.{claimed_life, row_of};
+ghost use Rattle.device_model.specs.RoomyBytes.{bytes_within};
+ghost use Rattle.device_model.specs.Units.Function.{IsWhole};
 ghost use Rattle.device_model.specs.Devices.Tables.{has_ended, is_at_driver, is_queued, request_of};
 
+use device_model::bytes::{Bytes, append};
 use device_model::messages::Request;
 use device_model::rows::{Life, Transfer};
 use kernel_base::answers::plain;
 use std::alloc::{AllocError, Global};
 use std::marker::Model;
-use tk_types::{Answer, Er, Sequence};
+use tk_types::{Answer, Er};
 
-/// A request. The bytes of a write stand in it twice until it is handed over: once for the driver, and once for the kernel's
-/// own copy of the unit's store. So handing over needs no memory for them.
+/// A request. Until it is handed over it has two places for all of its bytes: one for the driver, and one for the kernel's own
+/// copy. Those of a write stand in both. So handing over needs no memory for them.
 #[derive(Drop)]
 pub(crate) struct Row {
     serial: u64,
@@ -23,8 +26,8 @@ pub(crate) struct Row {
     start: u32,
     size: u32,
     address: u32,
-    bytes: Sequence<u8>,
-    copy: Sequence<u8>,
+    bytes: Bytes,
+    copy: Bytes,
     life: Life,
 }
 
@@ -34,16 +37,16 @@ impl Model for Row {
 
     ghost Value = { RowView };
 
-    ghost view = { λ r. record { serial = r.serial; descriptor = r.descriptor; device = r.device; write = r.write; start = r.start; size = r.size; address = r.address; bytes = r.bytes; life = r.life } };
+    ghost view = { λ r. record { serial = r.serial; descriptor = r.descriptor; device = r.device; write = r.write; start = r.start; size = r.size; address = r.address; bytes = r.bytes.items; life = r.life } };
 
     ghost invariant = { λ r. IsRow r.descriptor r.address r.size r.write r.bytes r.copy r.life };
 }
 
-/// What a driver gets: the request, and its bytes once more for the message.
+/// What a driver gets: the request, and the place of its bytes once more for the message.
 #[derive(Drop)]
 pub(crate) struct Handed {
     pub(crate) request: Request,
-    pub(crate) copy: Sequence<u8>,
+    pub(crate) copy: Bytes,
 }
 
 /// The start of a transfer; 0 stands for the event buffer.
@@ -54,7 +57,7 @@ fn start_of(transfer: Transfer) -> u32
 }
 
 impl Row {
-    /// A request that waits for its device's driver, with the bytes that it writes.
+    /// A request that waits for its device's driver, with the bytes that it writes, or with room for those that it reads.
     pub(crate) fn waiting(
         alloc: Global,
         device: u8,
@@ -63,7 +66,9 @@ impl Row {
     ) -> Result<Row, AllocError>
         requires descriptor { transfer.descriptor ≤ 32 }
         requires inside { transfer.address + transfer.size ≤ 65536 }
-        requires whole { transfer.write ≡ true → length bytes.now ≡ transfer.size }
+        requires full { transfer.write ≡ true → length bytes.now ≡ transfer.size }
+        requires empty { transfer.write ≡ false → bytes.now ≡ [] }
+        requires fits { length bytes.now ≤ transfer.size }
         ensures { IfOk result (λ row. row ≡ row_of device transfer bytes.now Queued) }
     {
         Ok(Row {
@@ -74,8 +79,8 @@ impl Row {
             start: start_of(transfer),
             size: transfer.size,
             address: transfer.address,
-            bytes: copied(alloc, bytes)?,
-            copy: copied(alloc, bytes)?,
+            bytes: bytes_within(alloc, transfer.size as usize, bytes)?,
+            copy: bytes_within(alloc, transfer.size as usize, bytes)?,
             life: Life::Queued,
         })
     }
@@ -95,8 +100,8 @@ impl Row {
             start: start_of(transfer),
             size: transfer.size,
             address: transfer.address,
-            bytes: Sequence::new(alloc),
-            copy: Sequence::new(alloc),
+            bytes: Bytes::new(alloc),
+            copy: Bytes::new(alloc),
             life: Life::Ended { size, error },
         }
     }
@@ -180,17 +185,18 @@ impl Row {
         plain(code)
     }
 
-    /// It goes to its driver under an ID and with a number; its bytes go with it.
+    /// It goes to its driver under an ID and with a number; both places for its bytes go with it.
     pub(crate) fn hand(&mut self, alloc: Global, id: u8, number: u64) -> Handed
+        requires { is_queued self.old.life ≡ true }
         ensures request { result.request ≡ request_of id number self.old }
-        ensures copy { result.copy ≡ self.old.bytes }
-        ensures whole { is_queued self.old.life ≡ true → self.old.write ≡ true → length self.old.bytes ≡ self.old.size }
-        ensures small { self.old.size ≤ 65536 }
+        ensures copy { result.copy ≡ result.request.bytes }
+        ensures whole { IsWhole result.request }
+        ensures small { result.request.size ≤ 65536 }
         ensures left { self.new ≡ record self.old { bytes = []; life = AtDriver } }
     {
         self.life = Life::AtDriver;
-        let bytes = std::mem::replace(&mut self.bytes, Sequence::new(alloc));
-        let copy = std::mem::replace(&mut self.copy, Sequence::new(alloc));
+        let bytes = std::mem::replace(&mut self.bytes, Bytes::new(alloc));
+        let copy = std::mem::replace(&mut self.copy, Bytes::new(alloc));
         Handed {
             request: Request {
                 id,
@@ -213,11 +219,12 @@ impl Row {
     }
 }
 
-/// The same bytes once more.
-pub(crate) fn copied(alloc: Global, bytes: &[u8]) -> Result<Sequence<u8>, AllocError>
-    ensures { IfOk result (λ copy. copy ≡ bytes.now) }
+/// Bytes in a place for so many.
+pub(crate) fn bytes_within(alloc: Global, size: usize, bytes: &[u8]) -> Result<Bytes, AllocError>
+    requires { length bytes.now ≤ size }
+    ensures { IfOk result (λ place. place ≡ bytes_within size bytes.now) }
 {
-    let mut copy = Vec::with_capacity(alloc, bytes.len())?;
-    copy.extend_from_slice(bytes)?;
-    Ok(Sequence::from_vec(copy))
+    let mut place = Vec::with_capacity(alloc, size)?;
+    append(&mut place, bytes);
+    Ok(Bytes::from_vec(place))
 }

@@ -5,7 +5,6 @@ ghost use Rattle.std.specs.Option.{is_some};
 ghost use Rattle.object_model.specs.Mails.Tables.{Mails as MailsView};
 ghost use Rattle.device_model.specs.Devices.Requests.{is_own};
 ghost use Rattle.device_model.specs.Devices.Servings.{after_acceptance, is_request_of, is_with_driver, serve_acceptance, serve_close, serve_ending};
-ghost use Rattle.dev_layer.specs.Accepting.{AreNamed};
 ghost use Rattle.dev_layer.specs.Parts.{AreQueued, parts_of};
 
 use crate::accepting::accept;
@@ -64,9 +63,7 @@ pub(crate) fn serve_acceptance(
 ) -> Result<bool, AllocError>
     requires low { 1 ≤ device }
     requires high { device ≤ 8 }
-    requires serials { table.old.serial < 2 ^ 63 }
     requires queued { AreQueued base.old }
-    requires named { AreNamed mails.now }
     ensures served { IfOk result (λ served. served ≡ is_some (serve_acceptance (parts_of base.old table.old mails.now memory.old) device)) }
     ensures left { OnOk result (parts_of base.new table.new mails.now memory.new ≡ unwrap_or (serve_acceptance (parts_of base.old table.old mails.now memory.old) device) (parts_of base.old table.old mails.now memory.old)) }
     ensures err { OnErr result (parts_of base.new table.new mails.now memory.new ≡ parts_of base.old table.old mails.now memory.old) }

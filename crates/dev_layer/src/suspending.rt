@@ -46,6 +46,7 @@ fn send_event(
     ensures fit { AreFit base.new mails.new }
 {
     let id = table.buffer(device);
+    mails.known_of_buffers();
     if !mails.has_mbf(id) {
         return;
     }

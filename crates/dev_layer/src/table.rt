@@ -1,19 +1,18 @@
 //! The table of devices, descriptors and requests, and the moves on it.
 
-ghost use Rattle.std.specs.Prelude.{◌≡◌, ◌≤◌, ◌<◌, ◌^◌, IfOk, IfSome, None, OnErr, OnOk, Some, [], count_by, drop, length, option_copied, replicate, slice_index, true};
+ghost use Rattle.std.specs.Prelude.{◌≡◌, ◌≤◌, ◌+◌, ◌<◌, ◌^◌, ℕ, IfOk, IfSome, None, OnErr, OnOk, Some, [], count_by, drop, length, nat_lt, option_copied, replicate, slice_index, true};
 ghost use Rattle.std.specs.List.{find, list_any};
 ghost use Rattle.std.specs.Option.{is_some};
 ghost use Rattle.kernel_model.specs.Words.Orders.{free_from};
 ghost use Rattle.device_model.specs.declared.rows.Wish.TheVariants.{Nothing};
 ghost use Rattle.device_model.specs.Devices.Calls.{has_request};
 ghost use Rattle.device_model.specs.Devices.Endings.{expected};
-ghost use Rattle.device_model.specs.Devices.Handing.{any_given, emptied, hand_first, handed_all, messages};
+ghost use Rattle.device_model.specs.Devices.Handing.{any_given, any_queued, emptied, hand_first, handed_all, messages};
 ghost use Rattle.device_model.specs.Devices.Requests.{has_ended_of, has_place};
 ghost use Rattle.device_model.specs.Devices.Tables.{accepted, asked, at_driver, buffer_of, devices_start, device_ids, dropped, first_queued, free_descriptor, free_request, link_at, opened_at, queues_on, row_at, wish_of, with_buffer, with_off, with_open, with_wish};
 ghost use Rattle.dev_layer.specs.Arriving.{ended_parts};
-ghost use Rattle.dev_layer.specs.Handing.{HaveFew};
 ghost use Rattle.dev_layer.specs.Messages.{allows_link, fits_link};
-ghost use Rattle.dev_layer.specs.Tables.{AreDevices, IsWish};
+ghost use Rattle.dev_layer.specs.Tables.{AreDevices, HasDescriptor, IsOpened, IsWish};
 
 use crate::handing::{first_device, hand_each, hand_one};
 use crate::links::Links;
@@ -28,41 +27,6 @@ use tk_types::{How, Script};
 /// The most unfinished requests of a device.
 const MOST_UNFINISHED: usize = 16;
 
-/// What a task asked for when it last waited for a device.
-#[derive(Drop)]
-struct Asked {
-    wish: Wish,
-}
-
-impl Model for Asked {
-    ghost use Rattle.device_model.specs.declared.rows.Wish.{Wish};
-    ghost use Rattle.dev_layer.specs.Tables.{IsWish};
-
-    ghost Value = { Wish };
-
-    ghost view = { λ a. a.wish };
-
-    ghost invariant = { λ a. IsWish a.wish };
-}
-
-impl Asked {
-    /// That a task asked for this.
-    fn new(wish: Wish) -> Asked
-        requires { IsWish wish }
-        ensures { result ≡ wish }
-    {
-        Asked { wish }
-    }
-
-    /// What it asked for.
-    fn wish(&self) -> Wish
-        ensures wish { result ≡ self.now }
-        ensures inside { IsWish self.now }
-    {
-        self.wish
-    }
-}
-
 /// The devices with their drivers, units, descriptors and requests; the event buffer of each, how often suspending is
 /// disabled, and what each task asked for when it last waited for one. It has a copy of each unit's store, which follows
 /// the endings that arrive.
@@ -74,7 +38,7 @@ pub struct Devices {
     buffers: Vec<u8>,
     off: u16,
     opened: Vec<Option<Opened>>,
-    wishes: Vec<Asked>,
+    wishes: Vec<Wish>,
 }
 
 impl Model for Devices {
@@ -107,12 +71,12 @@ fn free_slots(alloc: Global) -> Result<Vec<Option<Opened>>, AllocError>
 }
 
 /// Nothing that each task asked for.
-fn no_wishes(alloc: Global) -> Result<Vec<Asked>, AllocError>
+fn no_wishes(alloc: Global) -> Result<Vec<Wish>, AllocError>
     ensures { IfOk result (λ wishes. wishes.items ≡ replicate 256 Nothing) }
 {
     let mut wishes = Vec::with_capacity(alloc, 256)?;
     'tasks: for _task in 0..256usize {
-        wishes.push(Asked::new(Wish::Nothing))?;
+        wishes.push(Wish::Nothing)?;
     }
     Ok(wishes)
 }
@@ -158,6 +122,18 @@ impl Devices {
         let _wishes = &self.wishes;
     }
 
+    /// States, at no cost, that the IDs of devices are from 1 to 8, those of opened ones too, and that whatever task wishes for an
+    /// acceptance does so by a descriptor up to 32.
+    pub fn known_of_devices(&self)
+        ensures few { length self.now.links ≤ 9 }
+        ensures unnamed { link_at self.now 0 ≡ None }
+        ensures opened { (dd : ℕ) → IsOpened (opened_at self.now dd) }
+        ensures wished { (t : ℕ) → HasDescriptor (wish_of self.now t) }
+    {
+        self.links.known_of_devices();
+        let _opened = &self.opened;
+    }
+
     /// Where what the table keeps is allocated.
     pub(crate) fn alloc(&self) -> Global {
         self.alloc
@@ -186,10 +162,17 @@ impl Devices {
     }
 
     /// Whether any driver has a request.
-    pub(crate) fn any_given(&self) -> bool
+    pub fn any_given(&self) -> bool
         ensures { result ≡ any_given self.now }
     {
         self.links.any_given()
+    }
+
+    /// Whether any request waits for a driver.
+    pub fn any_queued(&self) -> bool
+        ensures { result ≡ any_queued self.now }
+    {
+        !self.requests.queued().is_empty()
     }
 
     /// The event buffer of a device, or 0.
@@ -279,7 +262,7 @@ impl Devices {
         ensures wish { result ≡ wish_of self.now task }
         ensures inside { IsWish result }
     {
-        self.wishes[task as usize].wish()
+        self.wishes[task as usize]
     }
 
     /// A task asks for something.
@@ -287,7 +270,7 @@ impl Devices {
         requires { IsWish wish }
         ensures { self.new ≡ with_wish self.old task wish }
     {
-        self.wishes[task as usize] = Asked::new(wish);
+        self.wishes[task as usize] = wish;
     }
 
     /// The request with that ID.
@@ -321,6 +304,13 @@ impl Devices {
         self.requests.serial()
     }
 
+    /// Whether there is a serial for one request more; there always is.
+    pub(crate) fn has_serial(&self) -> bool
+        ensures { result ≡ nat_lt (self.now.serial + 1) (2 ^ 64) }
+    {
+        self.requests.serial() < u64::MAX
+    }
+
     /// Whether a device takes one request more.
     pub(crate) fn has_place(&self, device: u8) -> bool
         ensures { result ≡ has_place self.now device }
@@ -345,7 +335,7 @@ impl Devices {
     /// A request takes an ID that is free, and the next serial.
     pub(crate) fn accept(&mut self, id: u8, row: Row)
         requires within { id ≤ 64 }
-        requires few { self.old.serial < 2 ^ 63 }
+        requires few { self.old.serial + 1 < 2 ^ 64 }
         ensures { self.new ≡ accepted self.old id row }
     {
         self.requests.accept(id, row);
@@ -369,12 +359,14 @@ impl Devices {
     }
 
     /// Each driver without a request gets the first that waits for it. An error says that there was no memory for the
-    /// messages, and that nothing changed.
+    /// messages, or no number for one more request, and that nothing changed.
     pub(crate) fn hand_all(&mut self) -> Result<(), AllocError>
-        requires { HaveFew self.old.links }
         ensures ok { OnOk result (self.new ≡ handed_all (device_ids self.old) self.old) }
         ensures err { OnErr result (self.new ≡ self.old) }
     {
+        if self.links.any_worn() {
+            return Err(AllocError);
+        }
         let count = self.links.count() as usize;
         self.links.reserve(count)?;
         hand_each(&mut self.links, &mut self.requests);
@@ -382,16 +374,18 @@ impl Devices {
     }
 
     /// The least device for whose driver a request waits gets its first. An error says that there was no memory for the
-    /// message, and that nothing changed.
+    /// message, or no number for the request, and that nothing changed.
     #[tactic(auto, unfolding(device_model::specs::Devices::Handing::hand_first))]
     pub(crate) fn hand_first(&mut self) -> Result<(), AllocError>
-        requires { HaveFew self.old.links }
         ensures ok { OnOk result (self.new ≡ hand_first self.old) }
         ensures err { OnErr result (self.new ≡ self.old) }
     {
         let Some(device) = first_device(&self.links, &self.requests) else {
             return Ok(());
         };
+        if self.links.number(device) == u64::MAX {
+            return Err(AllocError);
+        }
         self.links.reserve(1)?;
         hand_one(&mut self.links, &mut self.requests, device);
         Ok(())

@@ -6,6 +6,7 @@ use Rattle.tk_types.specs.declared.error_code.Er.{Er}
 use Rattle.tk_types.specs.declared.error_code.Er.TheVariants as er
 use Rattle.tk_types.specs.declared.script.Kind.{Kind}
 use Rattle.device_model.specs.declared.messages.Request.{Request}
+use Rattle.device_model.specs.RoomyBytes.{RoomyBytes}
 use Rattle.device_model.specs.Units.Stores.{Store, is_log, is_spoilt}
 use Rattle.device_model.specs.Units.Function.{IsWhole, Served, appends, available, begin, block_size, count_of, cut, cut_begun, error_of, may_cut, moved, size_of, unit}
 use Rattle.device_model.specs.Units.Blocks.{Partial, block, blocks, count_at, is_last}
@@ -13,12 +14,13 @@ use Rattle.unit_laws.proofs.Blocks.{blocks_cut, blocks_part, blocks_whole, last_
 use Rattle.unit_laws.proofs.Counts.{count_same}
 use Rattle.dev_units.specs.declared.block_end.BlockEnd.{BlockEnd}
 use Rattle.dev_units.specs.declared.block_end.BlockEnd.TheVariants.{Ended, More}
-use Rattle.dev_units.specs.Ends.{block_end, error_at, size_at}
+use Rattle.driver_model.specs.Ends.{error_at, size_at}
+use Rattle.dev_units.specs.Ends.{block_end}
 use Rattle.dev_units.specs.Progress.{CameTo, IsUnderWay, brought, ended_with, partial}
 
 -- ---- the beginning
 
-cut_at_start : (kind : Kind) (begun : Store) (id number : ℕ) (write : Bool) (start size : ℕ) (bytes : List ℕ) →
+cut_at_start : (kind : Kind) (begun : Store) (id number : ℕ) (write : Bool) (start size : ℕ) (bytes : RoomyBytes) →
     let request : Request = record { id = id; number = number; write = write; start = start; size = size; bytes = bytes } in
     ended_with begun 0 er.Abort [] ≡ cut_begun kind begun request 0
 cut_at_start kind begun id number true start size bytes = ap (λ (b : List ℕ). ended_with (record begun { bytes = b }) 0 er.Abort []) (sym (nothing_written (is_log kind) begun.bytes start))
@@ -50,13 +52,13 @@ store_is : (kind : Kind) (found store : Store) (request : Request) (k : ℕ) (co
 store_is kind found store request k content whole way =
     ap (λ (p : Partial). p.store) (way.served ∙ blocks_part kind found request k whole (reached kind found store request k content way))
 
-moved_none_by : (kind : Kind) (begun : Store) (id number : ℕ) (write : Bool) (start size : ℕ) (bytes : List ℕ) →
+moved_none_by : (kind : Kind) (begun : Store) (id number : ℕ) (write : Bool) (start size : ℕ) (bytes : RoomyBytes) →
     let request : Request = record { id = id; number = number; write = write; start = start; size = size; bytes = bytes } in
     (moved kind begun request 0).bytes ≡ begun.bytes
 moved_none_by kind begun id number true start size bytes = nothing_written (is_log kind) begun.bytes start
 moved_none_by kind begun id number false start size bytes = refl
 
-moved_begun_by : (kind : Kind) (begun : Store) (id number : ℕ) (write : Bool) (start size : ℕ) (bytes : List ℕ) (m : ℕ) →
+moved_begun_by : (kind : Kind) (begun : Store) (id number : ℕ) (write : Bool) (start size : ℕ) (bytes : RoomyBytes) (m : ℕ) →
     let request : Request = record { id = id; number = number; write = write; start = start; size = size; bytes = bytes } in
     (moved kind begun request m).begun ≡ begun.begun
 moved_begun_by kind begun id number true start size bytes m = refl
@@ -147,7 +149,7 @@ came kind found store request k content whole way = came_by (is_last kind store 
 
 -- ---- with the bytes that lie there
 
-brought_by : (kind : Kind) (store : Store) (items : List ℕ) (k : ℕ) (id number : ℕ) (write : Bool) (start size : ℕ) (bytes : List ℕ) →
+brought_by : (kind : Kind) (store : Store) (items : List ℕ) (k : ℕ) (id number : ℕ) (write : Bool) (start size : ℕ) (bytes : RoomyBytes) →
     let request : Request = record { id = id; number = number; write = write; start = start; size = size; bytes = bytes } in
     block kind (partial store (brought request items)) request k
     ≡ partial (block kind (partial store items) request k).store (brought request (block kind (partial store items) request k).content)

@@ -1,25 +1,14 @@
 -- What a block answers: that more is to be done, or how the request has ended. A block knows no more than what stands when
 -- it begins.
-use Rattle.std.specs.Prelude.{ℕ, ◌*◌, ◌==◌, if◌then◌else◌}
-use Rattle.tk_types.specs.declared.error_code.Er.{Er}
-use Rattle.tk_types.specs.declared.error_code.Er.TheVariants as er
+use Rattle.std.specs.Prelude.{ℕ, ◌*◌, if◌then◌else◌}
 use Rattle.tk_types.specs.declared.script.Kind.{Kind}
 use Rattle.device_model.specs.declared.messages.Request.{Request}
 use Rattle.device_model.specs.Units.Stores.{Store}
-use Rattle.device_model.specs.Units.Function.{available, block_size, cause_of}
-use Rattle.device_model.specs.Units.Blocks.{count_at, is_last}
+use Rattle.device_model.specs.Units.Function.{block_size}
+use Rattle.device_model.specs.Units.Blocks.{is_last}
+use Rattle.driver_model.specs.Ends.{error_at, size_at}
 use Rattle.dev_units.specs.declared.block_end.BlockEnd.{BlockEnd}
 use Rattle.dev_units.specs.declared.block_end.BlockEnd.TheVariants.{Ended, More}
-
--- the size that a request answers, seen from where so many bytes were moved
-abbrev pub size_at : Kind → Store → Request → ℕ → ℕ
-size_at kind store request moved =
-    if request.size == 0 then available kind store.bytes request else count_at kind store request moved
-
--- and its error
-abbrev pub error_at : Kind → Store → Request → ℕ → Er
-error_at kind store request moved =
-    if request.size == 0 then er.Ok else (if count_at kind store request moved == 0 then cause_of kind store request else er.Ok)
 
 -- what the block with that number answers
 abbrev pub block_end : Kind → Store → Request → ℕ → BlockEnd

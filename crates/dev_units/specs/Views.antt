@@ -38,6 +38,10 @@ pub record IsUnit (kind : Kind) (bytes : List ℕ) (begun turn capacity : ℕ) :
   pub has_turns : HasTurns kind
   pub in_turn : turn ≡ turn_of kind begun
 
+-- a write has as many bytes as its size
+abbrev pub HasBytes : Request → Type 0
+HasBytes request = request.write ≡ true → length request.bytes.items ≡ request.size
+
 -- the bytes that a read has brought are those of the blocks before this one, and there is room for the rest
 pub record HasRoom (request : Request) (number : ℕ) (out : RoomyBytes) : Type 0 where
   pub brought : length out.items ≡ block_size * number

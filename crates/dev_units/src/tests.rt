@@ -6,10 +6,11 @@ ghost use Rattle.dev_units.specs.Progress.{brought, ended_with};
 ghost use Rattle.dev_units.specs.Views.{IsRightKind};
 
 use super::*;
+use device_model::bytes::Bytes;
 use device_model::messages::Request;
 use std::alloc::Global;
 use std::test::Fail;
-use tk_types::{Er, Kind, OutOfMemory, Sequence};
+use tk_types::{Er, Kind, OutOfMemory};
 
 /// Begins a request and does its blocks one after another, and answers its size and its error.
 fn served(unit: &mut Unit, request: &Request, out: &mut Bytes) -> (u32, Er)
@@ -62,23 +63,24 @@ fn write_of(alloc: Global, start: u32, bytes: &[u8]) -> Result<Request, OutOfMem
         write: true,
         start,
         size: bytes.len() as u32,
-        bytes: Sequence::from_vec(bytes),
+        bytes: Bytes::from_vec(bytes),
     })
 }
 
 /// A request that reads so many bytes from a start on.
-fn read_of(alloc: Global, start: u32, size: u32) -> Request
-    ensures write { result.write ≡ false }
-    ensures size { result.size ≡ size }
+fn read_of(alloc: Global, start: u32, size: u32) -> Result<Request, OutOfMemory>
+    ensures whole { IfOk result (λ request. IsWhole request) }
+    ensures write { IfOk result (λ request. request.write ≡ false) }
+    ensures size { IfOk result (λ request. request.size ≡ size) }
 {
-    Request {
+    Ok(Request {
         id: 2,
         number: 2,
         write: false,
         start,
         size,
-        bytes: Sequence::new(alloc),
-    }
+        bytes: Bytes::with_room(alloc, size)?,
+    })
 }
 
 /// A write begins, and its first blocks are done, so many. Answers whether more is to be done after each of them.
@@ -113,8 +115,9 @@ fn holds(alloc: Global, unit: &mut Unit, step: Step) -> Result<bool, OutOfMemory
             ended,
             bytes,
         } => {
+            let request = read_of(alloc, start, size)?;
             let mut out = Bytes::with_room(alloc, size)?;
-            let came = served(unit, &read_of(alloc, start, size), &mut out);
+            let came = served(unit, &request, &mut out);
             Ok(came == ended && out.as_slice() == bytes)
         }
         Step::Cut { bytes, blocks } => {

@@ -5,10 +5,11 @@ ghost use Rattle.device_model.specs.Units.Stores.{Store, first_bytes, is_log, is
 ghost use Rattle.device_model.specs.Units.Function.{IsWhole, appends, available, begin, block_size};
 ghost use Rattle.device_model.specs.Units.Blocks.{block as after_block, count_at, piece, written_on};
 ghost use Rattle.dev_units.specs.declared.block_end.BlockEnd.TheVariants.{More};
-ghost use Rattle.dev_units.specs.Ends.{block_end, error_at};
+ghost use Rattle.driver_model.specs.Ends.{error_at};
+ghost use Rattle.dev_units.specs.Ends.{block_end};
 ghost use Rattle.dev_units.specs.Progress.{CameTo, IsUnderWay, brought, partial};
 ghost use Rattle.dev_units.specs.Turns.{turn_of};
-ghost use Rattle.dev_units.specs.Views.{GoesOn, HasRoom, IsRightKind, HasTurns, most_bytes};
+ghost use Rattle.dev_units.specs.Views.{GoesOn, HasBytes, HasRoom, IsRightKind, HasTurns, most_bytes};
 
 use crate::block_end::BlockEnd;
 use crate::count::Count;
@@ -199,7 +200,7 @@ impl Unit {
 
     /// The next bytes of a write, so many, go into the store, behind those that were moved.
     fn write_on(&mut self, request: &Request, moved: usize, count: usize)
-        requires source { moved + count ≤ length request.now.bytes }
+        requires source { moved + count ≤ length request.now.bytes.items }
         requires place { is_log self.old.kind ≡ false → request.now.start + moved + count ≤ length self.old.store.bytes }
         requires room { is_log self.old.kind ≡ true → length self.old.store.bytes + count ≤ log_limit }
         ensures { self.new ≡ record self.old { store = record self.old.store { bytes = written_on self.old.kind self.old.store.bytes request.now moved count } } }
@@ -228,7 +229,7 @@ impl Unit {
     /// Moves the bytes of the block with that number, of a request that moves so many bytes in all.
     #[tactic(auto, unfolding(device_model::specs::Units::Blocks::block))]
     fn move_block(&mut self, request: &Request, block: u32, count: usize, out: &mut Bytes)
-        requires whole { IsWhole request.now }
+        requires bytes { HasBytes request.now }
         requires count { count ≡ count_at self.old.kind self.old.store request.now (block_size * block) }
         requires room { request.now.write ≡ false → HasRoom request.now block out.old }
         ensures served { partial self.new.store out.new.items ≡ after_block self.old.kind (partial self.old.store out.old.items) request.now block }
@@ -251,17 +252,17 @@ impl Unit {
     }
 
     /// Does the block with that number, from 0 on, of a request that was begun, once all blocks before it were done. A write
-    /// goes into the store and leaves `out` as it is; of a read `out` has the bytes of the blocks before, and room for all that
-    /// was asked for. It takes no memory. A request that moves nothing has one block, with the number 0.
+    /// has its bytes, which go into the store, and leaves `out` as it is; of a read `out` has the bytes of the blocks before, and
+    /// room for all that was asked for. It takes no memory. A request that moves nothing has one block, with the number 0.
     ///
     /// Answers `More` while blocks are left, and then how the request ended, which is what the unit does with it as a whole.
     /// Where a request stops before, it is cut off behind the bytes of the blocks that were done.
     pub fn serve_block(&mut self, request: &Request, block: u32, out: &mut Bytes) -> BlockEnd
-        requires whole { IsWhole request.now }
+        requires bytes { HasBytes request.now }
         requires room { request.now.write ≡ false → HasRoom request.now block out.old }
         ensures served { partial self.new.store out.new.items ≡ after_block self.old.kind (partial self.old.store out.old.items) request.now block }
         ensures result { result ≡ block_end self.old.kind self.old.store request.now block }
-        ensures came_to { (found : Store) → IsUnderWay self.old.kind found request.now block self.old.store (brought request.now out.old.items) → CameTo self.old.kind found request.now (block + 1) result self.new.store (brought request.now out.new.items) }
+        ensures came_to { (found : Store) → IsWhole request.now → IsUnderWay self.old.kind found request.now block self.old.store (brought request.now out.old.items) → CameTo self.old.kind found request.now (block + 1) result self.new.store (brought request.now out.new.items) }
         ensures kind { self.new.kind ≡ self.old.kind }
         ensures memory { self.new.capacity ≡ self.old.capacity }
         ensures room { length out.new.items + out.new.room ≡ length out.old.items + out.old.room }

@@ -13,7 +13,7 @@ fold_more [] move dv = refl
 fold_more (first ∷ moves) move dv = fold_more moves move (moved dv first)
 
 -- one move more
-one_more : (dv now after : Devices) (move : Move) → moved now move ≡ after → Leads dv now → Leads dv after
+pub one_more : (dv now after : Devices) (move : Move) → moved now move ≡ after → Leads dv now → Leads dv after
 unfolding all_moved
 one_more dv now after move is before = record {
   moves = before.moves ++ move ∷ [];

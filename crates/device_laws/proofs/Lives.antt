@@ -103,13 +103,21 @@ abbrev row_or : Option Row → Row → Row
 row_or None otherwise = otherwise
 row_or (Some row) otherwise = row
 
--- a request that has ended is from then on as it was, while it is there
-pub stays_so : (moves : List Move) (dv : Devices) (id : ℕ) (row : Row) → AreApart dv → row_at dv id ≡ Some row → has_ended row.life ≡ true → StaysSo row (all_moved dv moves)
-unfolding all_moved
-stays_so moves dv id row apart there over = all_keep (StaysSo row) (so_kept row over) moves dv (record {
+-- a request that is there is as it is, since no other has its serial
+pub so_now : (dv : Devices) (id : ℕ) (row : Row) → AreApart dv → row_at dv id ≡ Some row → StaysSo row dv
+so_now dv id row apart there = record {
   given = apart.given id row there;
   so = λ other now also same. by_place other now also (apart.apart other id now row also there same);
-})
+}
   where
     by_place : (other : ℕ) (now : Row) → row_at dv other ≡ Some now → other ≡ id → now ≡ row
     by_place other now also is = ap (λ (slot : Option Row). row_or slot row) (sym (ap (λ (n : ℕ). row_at dv n) (sym is) ∙ also) ∙ there)
+
+-- where it has ended it stays so through moves
+pub so_stays : (row : Row) → has_ended row.life ≡ true → (moves : List Move) (dv : Devices) → StaysSo row dv → StaysSo row (all_moved dv moves)
+unfolding all_moved
+so_stays row over moves dv so = all_keep (StaysSo row) (so_kept row over) moves dv so
+
+-- a request that has ended is from then on as it was, while it is there
+pub stays_so : (moves : List Move) (dv : Devices) (id : ℕ) (row : Row) → AreApart dv → row_at dv id ≡ Some row → has_ended row.life ≡ true → StaysSo row (all_moved dv moves)
+stays_so moves dv id row apart there over = so_stays row over moves dv (so_now dv id row apart there)

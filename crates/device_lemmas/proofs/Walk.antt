@@ -80,11 +80,15 @@ bytes_copied : (write : Bool) (n address : ℕ) (memory : List ℕ) → write �
 bytes_copied true n address memory is = bytes_read n address memory
 bytes_copied false n address memory is = absurd (cc is)
 
+none_copied : (write : Bool) (n address : ℕ) (memory : List ℕ) → write ≡ false → (if write then read_bytes n address memory else []) ≡ []
+none_copied true n address memory is = absurd (cc is)
+none_copied false n address memory is = refl
+
 queued_new : (d : ℕ) (transfer : Transfer) (memory : List ℕ) → IsNew (requests.row_of d transfer (requests.copied transfer memory) Queued)
-queued_new d transfer memory = record { whole = λ waits write. bytes_copied transfer.write transfer.size transfer.address memory write; apart = refl; unaborted = refl }
+queued_new d transfer memory = record { whole = λ waits write. bytes_copied transfer.write transfer.size transfer.address memory write; none = λ read. none_copied transfer.write transfer.size transfer.address memory read; apart = refl; unaborted = refl }
 
 ended_new : (d : ℕ) (transfer : Transfer) (size : ℕ) (error : Er) → is_abort error ≡ false → IsNew (requests.row_of d transfer [] (Ended size error))
-ended_new d transfer size error plain = record { whole = λ waits write. absurd (cc waits); apart = refl; unaborted = plain }
+ended_new d transfer size error plain = record { whole = λ waits write. absurd (cc waits); none = λ read. refl; apart = refl; unaborted = plain }
 
 ends_kept : (P : Devices → Type 0) → IsMoveProof P → (d id : ℕ) (transfer : Transfer) (dv : Devices) (size : ℕ) (error : Er) → is_abort error ≡ false → P dv → P (accepted dv id (requests.row_of d transfer [] (Ended size error)))
 ends_kept P is d id transfer dv size error plain kept = is.accepts dv id (requests.row_of d transfer [] (Ended size error)) (ended_new d transfer size error plain) kept

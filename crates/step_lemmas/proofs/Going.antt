@@ -89,11 +89,12 @@ paced m Ends state over all sent unended at_state at_over at_lines at_sent =
 sound_at_start : (script : Script) → IsRunnable script → IsSound (start script).state.base (start script).state.objects
 sound_at_start script runnable = sound_of _ (start_asked script runnable)
 
-pub going_at_start : (script : Script) (mode : Mode) (budget : ℕ) (first state : State) → IsRunnable script → 1 ≤ budget → budget ≤ 1000000 → first ≡ state_start script → state ≡ (dispatched 0 first).state → IsGoing mode budget state None false
+pub going_at_start : (script : Script) (mode : Mode) (budget : ℕ) (first state : State) → IsRunnable script → 1 ≤ budget → budget ≤ 1000000 → first ≡ state_start script → state ≡ (dispatched 0 first).state → IsGoing script mode budget state None false
 unfolding start
 going_at_start script mode budget first state runnable low high at_first at_state =
     let at : state ≡ (start script).state = at_state ∙ ap (λ (st : State). (dispatched 0 st).state) at_first in
     record {
+      runnable = runnable;
       limit = high;
       left = λ f o. let none : state.steps ≡ 0 = ap (λ (st : State). st.steps) at ∙ start_unstepped script in omega (arith, none, low);
       counts = λ f o. subst IsCounted (sym at) (start_counted script);
@@ -123,9 +124,10 @@ moved_sound script mode budget old move places whole devices sound = sound_of _ 
 moved_still : (script : Script) (mode : Mode) (budget : ℕ) (old : State) (move : Move) → IsWhole old → HasDevices old → IsAtRest mode old → IsAtRest mode (reached.after_move script mode budget old move)
 moved_still script mode budget old move whole devices rest = moved_rest script mode budget old move (record { base = whole.tasks; few = devices.few }) rest
 
-pub going_after_step : (script : Script) (mode : Mode) (budget : ℕ) (old new : State) (over : Option End) (failed : Bool) → budget ≤ 1000000 → old.steps < budget → IsCounted old → HavePlaces old.base → IsWhole old → HasDevices old →
-    IsSound old.base old.objects → IsAtRest mode old → new ≡ reached.after_pace old (step script mode budget old) → over ≡ over_with (step script mode budget old) → IsGoing mode budget new over failed
-going_after_step script mode budget old new over failed high below counts places whole devices sound rest at_new at_over = record {
+pub going_after_step : (script : Script) (mode : Mode) (budget : ℕ) (old new : State) (over : Option End) (failed : Bool) → IsRunnable script → budget ≤ 1000000 → old.steps < budget → IsCounted old → HavePlaces old.base → IsWhole old → HasDevices old →
+    IsSound old.base old.objects → IsAtRest mode old → new ≡ reached.after_pace old (step script mode budget old) → over ≡ over_with (step script mode budget old) → IsGoing script mode budget new over failed
+going_after_step script mode budget old new over failed runnable high below counts places whole devices sound rest at_new at_over = record {
+  runnable = runnable;
   limit = high;
   left = λ f o. subst (λ (st : State). st.steps < budget) (sym at_new) (left_of script mode budget old (step script mode budget old) refl below counts (sym at_over ∙ o));
   counts = λ f o. subst IsCounted (sym at_new) (counts_of script mode budget old (step script mode budget old) refl high below counts (sym at_over ∙ o));
@@ -134,12 +136,13 @@ going_after_step script mode budget old new over failed high below counts places
 }
 
 -- the same after an ending has arrived
-pub going_after_arrival : (script : Script) (mode : Mode) (budget : ℕ) (old new : State) (over : Option End) (failed : Bool) (e : Ending) (event : Event) → budget ≤ 1000000 → old.steps < budget → IsCounted old → HavePlaces old.base → IsWhole old →
-    HasDevices old → IsSound old.base old.objects → IsAtRest mode old → arrived script mode old e ≡ Some event → new ≡ taken event.state → IsGoing mode budget new over failed
-going_after_arrival script mode budget old new over failed e event high below counts places whole devices sound rest comes at_new =
+pub going_after_arrival : (script : Script) (mode : Mode) (budget : ℕ) (old new : State) (over : Option End) (failed : Bool) (e : Ending) (event : Event) → IsRunnable script → budget ≤ 1000000 → old.steps < budget → IsCounted old → HavePlaces old.base → IsWhole old →
+    HasDevices old → IsSound old.base old.objects → IsAtRest mode old → arrived script mode old e ≡ Some event → new ≡ taken event.state → IsGoing script mode budget new over failed
+going_after_arrival script mode budget old new over failed e event runnable high below counts places whole devices sound rest comes at_new =
     let all = arrived_counted script mode old e event counts comes in
     let same : new ≡ reached.after_move script mode budget old (Arrives e) = at_new ∙ sym (ap (reached.after_offer old) comes) in
     record {
+      runnable = runnable;
       limit = high;
       left = λ f o. subst (λ (st : State). st.steps < budget) (sym at_new) (omega (arith, all.1, below));
       counts = λ f o. subst IsCounted (sym at_new) (taken_counted event.state all.0);

@@ -1,6 +1,6 @@
 //! The ending of a request arrives.
 
-ghost use Rattle.std.specs.Prelude.{◌≡◌, ◌<◌, ◌≤◌, ◌+◌, ◌∷◌, ◌++◌, [], IfOk, OnOk, Some, None, true, false, unwrap_or};
+ghost use Rattle.std.specs.Prelude.{◌≡◌, ◌<◌, ◌≤◌, ◌+◌, ◌^◌, ◌∷◌, ◌++◌, [], IfOk, OnOk, Some, None, true, false, unwrap_or};
 ghost use Rattle.std.specs.Option.{is_some, option_map};
 ghost use Rattle.device_model.specs.Devices.Endings.{arrive};
 ghost use Rattle.device_model.specs.Devices.Handing.{messages};
@@ -12,10 +12,10 @@ ghost use Rattle.step_lemmas.specs.Arrivals.{HasArrived, arrival_of};
 ghost use Rattle.step_lemmas.specs.Sound.{IsSound};
 
 use crate::kernel::Kernel;
-use crate::pacing::{Course, Output};
+use crate::pacing::Output;
 use device_model::messages::Ending;
 use std::alloc::AllocError;
-use tk_types::{How, Line, LineEnding};
+use tk_types::{How, Line, LineEnding, Mode, Script};
 
 /// The line of an ending that arrives before a step.
 fn ending_line(step: u32, ending: &Ending) -> Line
@@ -64,21 +64,22 @@ impl Kernel {
 #[tactic(auto, unfolding(machine_model::specs::Events::Arrivals::arrived))]
 pub(crate) fn arrive(
     kernel: &mut Kernel,
-    course: Course<'_>,
+    script: &Script,
+    mode: Mode,
     ending: &Ending,
     out: &mut Output,
 ) -> Result<bool, AllocError>
     requires sound { IsSound kernel.old.base kernel.old.objects }
-    requires steps { kernel.old.steps < course.budget }
-    ensures some { IfOk result (λ some. some ≡ true → HasArrived (arrived course.script.now course.mode kernel.old ending.now) kernel.new out.old.lines.items out.new.lines.items out.old.messages.items out.new.messages.items) }
-    ensures none { IfOk result (λ some. some ≡ false → (arrived course.script.now course.mode kernel.old ending.now ≡ None) × (kernel.new ≡ kernel.old) × (out.new ≡ out.old)) }
+    requires steps { kernel.old.steps + 1 < 2 ^ 32 }
+    ensures some { IfOk result (λ some. some ≡ true → HasArrived (arrived script.now mode kernel.old ending.now) kernel.new out.old.lines.items out.new.lines.items out.old.messages.items out.new.messages.items) }
+    ensures none { IfOk result (λ some. some ≡ false → (arrived script.now mode kernel.old ending.now ≡ None) × (kernel.new ≡ kernel.old) × (out.new ≡ out.old)) }
 {
     if !kernel.accept_ending(ending) {
         return Ok(false);
     }
     let step = kernel.steps() + 1;
     out.lines.push(ending_line(step, ending))?;
-    kernel.follow(course.script, course.mode, step, &mut out.lines)?;
+    kernel.follow(script, mode, step, &mut out.lines)?;
     kernel.gather(&mut out.messages)?;
     Ok(true)
 }

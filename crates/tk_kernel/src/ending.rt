@@ -86,7 +86,8 @@ impl Kernel {
             return Ok(());
         }
         contexts::left(&mut self.contexts, task, true);
-        self.free_all(mode, task)
+        self.free_all(mode, task)?;
+        Ok(())
     }
 
     /// What a task leaves that a call has ended.
@@ -102,6 +103,7 @@ impl Kernel {
         ensures { OnOk result (self.new ≡ without_holdings mode self.old (ended_by actor call.now outcome)) }
     {
         let task = ended_by(actor, call, outcome);
-        self.drop_holdings(mode, task as u8)
+        self.drop_holdings(mode, task as u8)?;
+        Ok(())
     }
 }

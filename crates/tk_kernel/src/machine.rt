@@ -9,7 +9,7 @@ ghost use Rattle.tk_kernel.specs.Pace.{pace_after};
 
 use crate::arriving::arrive;
 use crate::kernel::Kernel;
-use crate::pacing::{Course, Output, Pace, advance, over_of};
+use crate::pacing::{Output, Pace, advance, over_of};
 use device_model::messages::{Ending, Message};
 use std::alloc::Global;
 use std::marker::Model;
@@ -47,7 +47,7 @@ impl Model for Machine {
 
     ghost view = { λ m. record { script = m.script; mode = m.mode; budget = m.budget; state = m.kernel; over = m.over; failed = m.failed; lines = m.out.lines.items; messages = m.out.messages.items } };
 
-    ghost invariant = { λ m. IsGoing m.mode m.budget m.kernel m.over m.failed };
+    ghost invariant = { λ m. IsGoing m.script m.mode m.budget m.kernel m.over m.failed };
 }
 
 impl Machine {
@@ -100,12 +100,13 @@ impl Machine {
             return Ok(Pace::Over(end));
         }
         self.kernel.known_of_tasks();
-        let course = Course {
-            script: &self.script,
-            mode: self.mode,
-            budget: self.budget,
-        };
-        match advance(&mut self.kernel, course, &mut self.out) {
+        match advance(
+            &mut self.kernel,
+            &self.script,
+            self.mode,
+            self.budget,
+            &mut self.out,
+        ) {
             Ok(pace) => {
                 self.over = over_of(pace);
                 Ok(pace)
@@ -133,12 +134,13 @@ impl Machine {
             return Err(Arrival::Unfit);
         }
         self.kernel.known_of_tasks();
-        let course = Course {
-            script: &self.script,
-            mode: self.mode,
-            budget: self.budget,
-        };
-        match arrive(&mut self.kernel, course, &ending, &mut self.out) {
+        match arrive(
+            &mut self.kernel,
+            &self.script,
+            self.mode,
+            &ending,
+            &mut self.out,
+        ) {
             Ok(true) => Ok(()),
             Ok(false) => Err(Arrival::Unfit),
             Err(_) => {

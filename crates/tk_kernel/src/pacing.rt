@@ -3,6 +3,7 @@
 ghost use Rattle.std.specs.Prelude.{◌≡◌, ◌<◌, ◌≤◌, ◌+◌, ◌++◌, ◌&&◌, IfOk, OnOk, not, unwrap_or};
 ghost use Rattle.std.specs.Option.{is_some};
 ghost use Rattle.count_lemmas.specs.Counts.{IsCounted};
+ghost use Rattle.kernel_model.specs.Bodies.Statements.{IsRunnable};
 ghost use Rattle.machine_model.specs.Events.Rest.{IsAtRest};
 ghost use Rattle.machine_model.specs.Runs.Reached.{after_pace};
 ghost use Rattle.machine_model.specs.Runs.Step.{any_unfinished, needed, quiet_step, step, went};
@@ -25,14 +26,6 @@ pub enum Pace {
     NeedsEnding,
     /// The run is over.
     Over(End),
-}
-
-/// What a run goes by.
-#[derive(Clone, Copy)]
-pub(crate) struct Course<'a> {
-    pub(crate) script: &'a Script,
-    pub(crate) mode: Mode,
-    pub(crate) budget: u32,
 }
 
 /// Lines of the trace, and messages to drivers, that weren't taken yet.
@@ -96,37 +89,52 @@ impl Kernel {
 
 /// Does the step that comes next.
 #[tactic(auto, unfolding(machine_model::specs::Runs::Step::counted))]
-fn go_on(kernel: &mut Kernel, course: Course<'_>, out: &mut Output) -> Result<Pace, AllocError>
-    requires limit { course.budget ≤ 1000000 }
-    requires left { kernel.old.steps < course.budget }
+fn go_on(
+    kernel: &mut Kernel,
+    script: &Script,
+    mode: Mode,
+    budget: u32,
+    out: &mut Output,
+) -> Result<Pace, AllocError>
+    requires runnable { IsRunnable script.now }
+    requires limit { budget ≤ 1000000 }
+    requires left { kernel.old.steps < budget }
     requires counts { IsCounted kernel.old }
     requires sound { IsSound kernel.old.base kernel.old.objects }
-    requires rest { IsAtRest course.mode kernel.old }
-    ensures state { OnOk result (kernel.new ≡ after_pace kernel.old (went course.script.now course.mode course.budget kernel.old)) }
-    ensures pace { IfOk result (λ pace. pace ≡ pace_with (went course.script.now course.mode course.budget kernel.old)) }
-    ensures lines { OnOk result (out.new.lines.items ≡ out.old.lines.items ++ lines_with kernel.old.steps (went course.script.now course.mode course.budget kernel.old)) }
-    ensures messages { OnOk result (out.new.messages.items ≡ out.old.messages.items ++ messages_with (went course.script.now course.mode course.budget kernel.old)) }
+    requires rest { IsAtRest mode kernel.old }
+    ensures state { OnOk result (kernel.new ≡ after_pace kernel.old (went script.now mode budget kernel.old)) }
+    ensures pace { IfOk result (λ pace. pace ≡ pace_with (went script.now mode budget kernel.old)) }
+    ensures lines { OnOk result (out.new.lines.items ≡ out.old.lines.items ++ lines_with kernel.old.steps (went script.now mode budget kernel.old)) }
+    ensures messages { OnOk result (out.new.messages.items ≡ out.old.messages.items ++ messages_with (went script.now mode budget kernel.old)) }
 {
     let step = kernel.steps() + 1;
-    kernel.work(course.script, course.mode, step, &mut out.lines)?;
-    let over = kernel.count(course.budget, step, &mut out.lines)?;
+    kernel.work(script, mode, step, &mut out.lines)?;
+    let over = kernel.count(budget, step, &mut out.lines)?;
     kernel.gather(&mut out.messages)?;
     Ok(pace_of(over))
 }
 
 /// The same where nothing can be done now, unless an ending has to arrive first or the run is over.
-fn pass(kernel: &mut Kernel, course: Course<'_>, event: bool, out: &mut Output) -> Result<Pace, AllocError>
-    requires limit { course.budget ≤ 1000000 }
-    requires left { kernel.old.steps < course.budget }
+fn pass(
+    kernel: &mut Kernel,
+    script: &Script,
+    mode: Mode,
+    budget: u32,
+    event: bool,
+    out: &mut Output,
+) -> Result<Pace, AllocError>
+    requires runnable { IsRunnable script.now }
+    requires limit { budget ≤ 1000000 }
+    requires left { kernel.old.steps < budget }
     requires counts { IsCounted kernel.old }
     requires sound { IsSound kernel.old.base kernel.old.objects }
-    requires rest { IsAtRest course.mode kernel.old }
-    ensures state { OnOk result (kernel.new ≡ after_pace kernel.old (quiet_step event course.script.now course.mode course.budget kernel.old)) }
-    ensures pace { IfOk result (λ pace. pace ≡ pace_with (quiet_step event course.script.now course.mode course.budget kernel.old)) }
-    ensures lines { OnOk result (out.new.lines.items ≡ out.old.lines.items ++ lines_with kernel.old.steps (quiet_step event course.script.now course.mode course.budget kernel.old)) }
-    ensures messages { OnOk result (out.new.messages.items ≡ out.old.messages.items ++ messages_with (quiet_step event course.script.now course.mode course.budget kernel.old)) }
+    requires rest { IsAtRest mode kernel.old }
+    ensures state { OnOk result (kernel.new ≡ after_pace kernel.old (quiet_step event script.now mode budget kernel.old)) }
+    ensures pace { IfOk result (λ pace. pace ≡ pace_with (quiet_step event script.now mode budget kernel.old)) }
+    ensures lines { OnOk result (out.new.lines.items ≡ out.old.lines.items ++ lines_with kernel.old.steps (quiet_step event script.now mode budget kernel.old)) }
+    ensures messages { OnOk result (out.new.messages.items ≡ out.old.messages.items ++ messages_with (quiet_step event script.now mode budget kernel.old)) }
 {
-    if kernel.needs_ending(course.mode, event)? {
+    if kernel.needs_ending(mode, event)? {
         kernel.gather(&mut out.messages)?;
         return Ok(Pace::NeedsEnding);
     }
@@ -134,25 +142,32 @@ fn pass(kernel: &mut Kernel, course: Course<'_>, event: bool, out: &mut Output) 
         push_end(&mut out.lines, kernel.steps(), Some(End::Idle))?;
         return Ok(Pace::Over(End::Idle));
     }
-    go_on(kernel, course, out)
+    go_on(kernel, script, mode, budget, out)
 }
 
 /// A step of a run that goes on.
 #[tactic(auto, unfolding(machine_model::specs::Runs::Step::step))]
-pub(crate) fn advance(kernel: &mut Kernel, course: Course<'_>, out: &mut Output) -> Result<Pace, AllocError>
-    requires limit { course.budget ≤ 1000000 }
-    requires left { kernel.old.steps < course.budget }
+pub(crate) fn advance(
+    kernel: &mut Kernel,
+    script: &Script,
+    mode: Mode,
+    budget: u32,
+    out: &mut Output,
+) -> Result<Pace, AllocError>
+    requires runnable { IsRunnable script.now }
+    requires limit { budget ≤ 1000000 }
+    requires left { kernel.old.steps < budget }
     requires counts { IsCounted kernel.old }
     requires sound { IsSound kernel.old.base kernel.old.objects }
-    requires rest { IsAtRest course.mode kernel.old }
-    ensures state { OnOk result (kernel.new ≡ after_pace kernel.old (step course.script.now course.mode course.budget kernel.old)) }
-    ensures pace { IfOk result (λ pace. pace ≡ pace_with (step course.script.now course.mode course.budget kernel.old)) }
-    ensures lines { OnOk result (out.new.lines.items ≡ out.old.lines.items ++ lines_with kernel.old.steps (step course.script.now course.mode course.budget kernel.old)) }
-    ensures messages { OnOk result (out.new.messages.items ≡ out.old.messages.items ++ messages_with (step course.script.now course.mode course.budget kernel.old)) }
+    requires rest { IsAtRest mode kernel.old }
+    ensures state { OnOk result (kernel.new ≡ after_pace kernel.old (step script.now mode budget kernel.old)) }
+    ensures pace { IfOk result (λ pace. pace ≡ pace_with (step script.now mode budget kernel.old)) }
+    ensures lines { OnOk result (out.new.lines.items ≡ out.old.lines.items ++ lines_with kernel.old.steps (step script.now mode budget kernel.old)) }
+    ensures messages { OnOk result (out.new.messages.items ≡ out.old.messages.items ++ messages_with (step script.now mode budget kernel.old)) }
 {
     if kernel.is_quiet() {
-        let event = kernel.has_event(course.script, kernel.steps() + 1);
-        return pass(kernel, course, event, out);
+        let event = kernel.has_event(script, kernel.steps() + 1);
+        return pass(kernel, script, mode, budget, event, out);
     }
-    go_on(kernel, course, out)
+    go_on(kernel, script, mode, budget, out)
 }

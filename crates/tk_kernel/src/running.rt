@@ -1,6 +1,7 @@
 //! Statements of tasks, services and the running handler.
 
 ghost use Rattle.std.specs.Prelude.{◌≡◌, ◌<◌, ◌^◌, ◌∷◌, ◌++◌, IfOk, OnOk, [], false, true};
+ghost use Rattle.kernel_model.specs.Bodies.Statements.{IsRunnable};
 ghost use Rattle.machine_model.specs.Events.Rest.{IsAtRest};
 ghost use Rattle.machine_model.specs.Runs.Turns.{acted, fell, ran, said_line};
 ghost use Rattle.step_lemmas.specs.Sound.{IsSound};
@@ -103,6 +104,7 @@ impl Kernel {
         actor: u8,
         lines: &mut Vec<Line>,
     ) -> Result<bool, AllocError>
+        requires runnable { IsRunnable script.now }
         requires few { self.old.base.made < 2 ^ 63 }
         requires early { self.old.base.time < 2 ^ 63 }
         requires sound { IsSound self.old.base self.old.objects }

@@ -104,7 +104,8 @@ impl Kernel {
         requires sound { IsSound self.old.base self.old.objects }
         ensures { IfOk result (λ served. Serves (first_serving at_devices) self.old self.new served) }
     {
-        if self.serve_acceptance()? {
+        let accepted = self.serve_acceptance()?;
+        if accepted {
             return Ok(true);
         }
         if self.serve_ending() {
@@ -127,7 +128,8 @@ impl Kernel {
         if self.serve_variable_pool() {
             return Ok(true);
         }
-        self.serve_devices()
+        let served = self.serve_devices()?;
+        Ok(served)
     }
 
     /// The first mutex, message buffer or object of a kind behind them that can serve a waiter serves one.
@@ -141,7 +143,8 @@ impl Kernel {
         if self.serve_buffer() {
             return Ok(true);
         }
-        self.serve_behind_buffers()
+        let served = self.serve_behind_buffers()?;
+        Ok(served)
     }
 
     /// The first object by kind and ID that can serve a waiter serves one. False, with nothing changed, comes exactly where
@@ -156,7 +159,8 @@ impl Kernel {
         if self.serve_mailbox() {
             return Ok(true);
         }
-        self.serve_behind_boxes()
+        let served = self.serve_behind_boxes()?;
+        Ok(served)
     }
 
     /// The same; what waits still stands in its order and has asked for something that fits.
@@ -166,6 +170,7 @@ impl Kernel {
         ensures sound { OnOk result (IsSound self.new.base self.new.objects) }
     {
         self.known_of_tasks();
-        self.serve_kinds()
+        let served = self.serve_kinds()?;
+        Ok(served)
     }
 }

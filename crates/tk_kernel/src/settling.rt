@@ -65,7 +65,8 @@ impl Kernel {
         requires sound { IsSound self.old.base self.old.objects }
         ensures { OnOk result (self.new ≡ with_parts self.old (handed mode (parts_of self.old))) }
     {
-        dev_layer::hand_over(&self.base, &mut self.devices, mode, false)
+        dev_layer::hand_over(&self.base, &mut self.devices, mode, false)?;
+        Ok(())
     }
 
     /// Changed priorities are taken over, and waiters are served one after another until none can be.
@@ -76,7 +77,8 @@ impl Kernel {
     {
         self.refresh();
         'servings: for _served in 0..MOST_SERVINGS {
-            if !self.serve_first()? {
+            let served = self.serve_first()?;
+            if !served {
                 return Ok(());
             }
             self.refresh();
@@ -91,7 +93,8 @@ impl Kernel {
         ensures { OnOk result (self.new ≡ settled mode self.old) }
     {
         self.serve_all()?;
-        self.hand_over(mode)
+        self.hand_over(mode)?;
+        Ok(())
     }
 
     /// The same; what waits still stands in its order and has asked for something that fits.
@@ -101,7 +104,8 @@ impl Kernel {
         ensures sound { OnOk result (IsSound self.new.base self.new.objects) }
     {
         self.known_of_tasks();
-        self.settle_parts(mode)
+        self.settle_parts(mode)?;
+        Ok(())
     }
 
     /// A wait that ended has its line, and its answer goes into the registers of its task.

@@ -1,6 +1,6 @@
 -- What holds of the devices after every list of moves. A word on the devices that each move keeps is kept by all that is
 -- made of them: calls, servings and requests that go to drivers. The arrival of an ending stands apart.
-use Rattle.std.specs.Prelude.{◌≡◌, ℕ, Bool, true, false, length, Option, Some}
+use Rattle.std.specs.Prelude.{◌≡◌, ℕ, Bool, true, false, [], length, Option, Some}
 use Rattle.tk_types.specs.declared.error_code.Er.{Er}
 use Rattle.tk_types.specs.declared.error_code.Er.TheVariants as er
 use Rattle.tk_types.specs.declared.line.How.{How}
@@ -20,10 +20,11 @@ abbrev pub is_aborted : Life → Bool
 is_aborted (Ended size error) = is_abort error
 is_aborted _ = false
 
--- a request as it is accepted: a write that waits for its driver has as many bytes as its size, no driver has it yet, and it
--- hasn't ended aborted
+-- a request as it is accepted: a write that waits for its driver has as many bytes as its size, a read has none, no driver has it
+-- yet, and it hasn't ended aborted
 pub record IsNew (row : Row) : Type 0 where
   pub whole : is_queued row.life ≡ true → row.write ≡ true → length row.bytes ≡ row.size
+  pub none : row.write ≡ false → row.bytes ≡ []
   pub apart : is_at_driver row.life ≡ false
   pub unaborted : is_aborted row.life ≡ false
 

@@ -31,7 +31,7 @@ pub returns-clause-left : goal.returns-clause-left
 returns-clause-left c = λ mails.
     let p : DevParts = parts_of c.args.base.now c.args.table.now mails c.args.memory.now in
     let some : arrive p c.args.ending.now ≡ Some (arrived_at p c.args.ending.now c.in-Some.request) = fit_arrives p c.args.ending.now (sym c.fits.ensures ∙ c.if-not-fits.false) ∙ ap (option_map (arrived_at p c.args.ending.now)) (sym c.request_at.ensures.known ∙ c.in-Some.is) in
-    let memory : c.land.new.memory ≡ write_bytes c.args.ending.now.bytes c.in-Some.request.address c.args.memory.now = c.land.ensures ∙ ap (λ (xs : List ℕ). write_bytes xs c.in-Some.request.address c.args.memory.now) c.as_slice.ensures in
+    let memory : c.land.new.memory ≡ write_bytes c.args.ending.now.bytes.items c.in-Some.request.address c.args.memory.now = c.land.ensures ∙ ap (λ (xs : List ℕ). write_bytes xs c.in-Some.request.address c.args.memory.now) c.as_slice.ensures in
     let table : c.close_after.new.table ≡ closed c.args.base.now (ended_parts c.args.table.now c.args.ending.now.device c.in-Some.request.id c.args.ending.now.how) c.in-Some.request.id c.in-Some.request.descriptor =
     c.close_after.ensures ∙ ap (λ (dv : Devices). closed c.args.base.now dv c.in-Some.request.id c.in-Some.request.descriptor) c.end.ensures in
     ap (λ (dv : Devices). parts_of c.args.base.now dv mails c.land.new.memory) table

@@ -16,10 +16,10 @@ returns-then-not-has_mbf-clause-sent c =
     event_dropped (parts_of c.args.base.now c.args.table.now c.args.mails.now c.args.memory.now) c.args.event c.args.device c.buffer-id.result c.buffer-id.ensures none
 
 pub post-sent-requires-clause-high : goal.post-sent-requires-clause-high
-post-sent-requires-clause-high c = id_high c.args.mails.now c.buffer-id.result c.requires.fit.named (sym c.has_mbf.ensures ∙ c.if-not-has_mbf.false)
+post-sent-requires-clause-high c = id_high c.args.mails.now c.buffer-id.result c.known_of_buffers.ensures (sym c.has_mbf.ensures ∙ c.if-not-has_mbf.false)
 
 pub post-sent-requires-clause-low : goal.post-sent-requires-clause-low
-post-sent-requires-clause-low c = id_low c.args.mails.now c.buffer-id.result c.requires.fit.named (sym c.has_mbf.ensures ∙ c.if-not-has_mbf.false)
+post-sent-requires-clause-low c = id_low c.args.mails.now c.buffer-id.result c.known_of_buffers.ensures (sym c.has_mbf.ensures ∙ c.if-not-has_mbf.false)
 
 pub returns-clause-sent : goal.returns-clause-sent
 returns-clause-sent c =
@@ -33,4 +33,4 @@ pub returns-clause-fit : goal.returns-clause-fit
 returns-clause-fit c =
     let p : DevParts = parts_of c.args.base.now c.args.table.now c.args.mails.now c.args.memory.now in
     let q : MailParts = mails_of c.post-sent.new.base c.post-sent.new.table c.post-sent.new.memory in
-    sent_fit (mail_parts p) q c.buffer-id.result _ (id_low c.args.mails.now c.buffer-id.result c.requires.fit.named (sym c.has_mbf.ensures ∙ c.if-not-has_mbf.false)) c.requires.fit c.post-sent.ensures.left
+    sent_fit (mail_parts p) q c.buffer-id.result _ c.requires.fit c.post-sent.ensures.left

@@ -4,7 +4,7 @@ use Rattle.device_model.specs.Devices.Tables.{Row, has_ended}
 use Rattle.kernel_lemmas.proofs.Tables.{entry_beyond}
 use Rattle.dev_layer.specs.Requests.{Requests, queues_some}
 use Rattle.dev_layer.proofs.Listed.{handed_fit}
-use Rattle.dev_layer.proofs.RequestMoves.{handed_at, handed_none, queued_not_ended, request_is, whole_request}
+use Rattle.dev_layer.proofs.RequestMoves.{handed_at, handed_none, queued_not_ended, request_is, waits_in}
 use Rattle.dev_layer.proofs.Slots.{same_back, there_at}
 use Rattle.dev_layer.proofs.requests.Requests.hand.Goals as goal
 
@@ -30,6 +30,13 @@ returns-then-id-len-clause-some c =
     let waits : queues_some (entry c.self.inside.rows.items c.args.id) ≡ true = ap (λ (rq : Requests). queues_some (entry rq.rows c.args.id)) c.self.view_is ∙ c.requires in
     absurd (cc (none, waits))
 
+pub hand-handed-requires : goal.hand-handed-requires
+hand-handed-requires c =
+    let inside : c.args.id < length c.self.inside.rows.items = omega arith in
+    let there : entry c.self.inside.rows.items c.args.id ≡ Some c.in-Some.row = there_at c.self.inside.rows.items c.args.id c.index_mut.result.now inside c.index_mut.ensures.value ∙ c.in-Some.is in
+    let waits : queues_some (entry c.self.inside.rows.items c.args.id) ≡ true = ap (λ (rq : Requests). queues_some (entry rq.rows c.args.id)) c.self.view_is ∙ c.requires in
+    waits_in (entry c.self.inside.rows.items c.args.id) c.in-Some.row there waits
+
 pub invariant_of-self-2 : goal.invariant_of-self-2
 invariant_of-self-2 c =
     let inside : c.args.id < length c.self.inside.rows.items = omega arith in
@@ -44,13 +51,6 @@ returns-clause-request c =
     let there : entry c.self.inside.rows.items c.args.id ≡ Some c.in-Some.row = there_at c.self.inside.rows.items c.args.id c.index_mut.result.now inside c.index_mut.ensures.value ∙ c.in-Some.is in
     let now_there : entry c.args.self.now.rows c.args.id ≡ Some c.in-Some.row = ap (λ (rq : Requests). entry rq.rows c.args.id) (sym c.self.view_is) ∙ there in
     request_is c.args.self.now.rows c.args.id c.args.number c.in-Some.row c.hand-handed.result.request now_there c.hand-handed.ensures.request
-
-pub returns-clause-whole : goal.returns-clause-whole
-returns-clause-whole c =
-    let inside : c.args.id < length c.self.inside.rows.items = omega arith in
-    let there : entry c.self.inside.rows.items c.args.id ≡ Some c.in-Some.row = there_at c.self.inside.rows.items c.args.id c.index_mut.result.now inside c.index_mut.ensures.value ∙ c.in-Some.is in
-    let waits : queues_some (entry c.self.inside.rows.items c.args.id) ≡ true = ap (λ (rq : Requests). queues_some (entry rq.rows c.args.id)) c.self.view_is ∙ c.requires in
-    whole_request (entry c.self.inside.rows.items c.args.id) c.args.id c.args.number c.in-Some.row c.hand-handed.result.request there c.hand-handed.ensures.request waits c.hand-handed.ensures.whole
 
 pub returns-clause-left : goal.returns-clause-left
 returns-clause-left c =

@@ -1,6 +1,6 @@
 use Rattle.std.proofs.Common.{◌≡◌, None, ap, length, replicate, rules}
 use Rattle.device_model.specs.declared.rows.Wish.TheVariants.{Nothing}
-use Rattle.dev_layer.proofs.Opened.{none_fit}
+use Rattle.dev_layer.proofs.Opened.{none_fit, none_wished}
 use Rattle.dev_layer.proofs.table.Devices.new.Goals as goal
 
 pub invariant_of-result : goal.invariant_of-result
@@ -13,4 +13,5 @@ invariant_of-result c =
       all_opened = ap length opened;
       all_wishes = ap length wishes;
       fit = none_fit c.in_ok-free_slots.field-0.items opened;
+      wished = none_wished c.in_ok-no_wishes.field-0.items wishes;
     }

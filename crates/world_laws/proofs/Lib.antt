@@ -1,0 +1,13 @@
+pub mod Places
+pub mod Takes
+pub mod Turns
+pub mod Roads
+pub mod LinkMoves
+pub mod DeviceWalk
+pub mod Meets
+pub mod Arrivals
+pub mod Worlds
+pub mod Sounds
+pub mod Requests
+pub mod Once
+pub mod Everywhere

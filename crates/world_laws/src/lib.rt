@@ -1,0 +1,4 @@
+//! The law of the world of kernel and drivers, the contract of a function that does nothing, and the lemmas that it follows from.
+#![tactic(auto)]
+
+pub mod laws;
