@@ -128,7 +128,7 @@ turn_led script mode budget turns st k entries enough rest (GoesOn lines now j l
           (goes_on (after lines) (λ next. is (λ now j left. next (record { state = now; number = j; left = left }))) later.by_turns);
       more = longer script mode budget turns st k entries (λ others most. is (λ now j left. runs others script mode budget now j left) ∙ ap (after lines) (later.more others most) ∙ sym mine);
       through = λ moves at. let by = comes moves at in subst (GoesThrough script mode budget moves (record { state = st; number = k; left = entries })) (sym mine)
-          (proceeds by.0 (after lines) at (λ next. is (λ now j left. next (record { state = now; number = j; left = left }))) (later.through (by.0 ++ moves) by.1));
+          (proceeds by.0 lines at (λ next. is (λ now j left. next (record { state = now; number = j; left = left }))) (later.through (by.0 ++ moves) by.1));
       reaches = subst (λ (t : Trace). t.last ≡ lasts.Budget → t.steps ≡ budget) (sym mine) later.reaches;
     }
 

@@ -22,7 +22,8 @@ ghost use Rattle.journal_laws.specs.Turns.{first_place};
 /// Devices change by their moves alone: those of each state that a machine comes to, by any steps and any endings, are what a list
 /// of moves on devices makes of those at the start, and so from each such state to a later one.
 pub fn devices_change_by_their_moves_in_every_run()
-    ensures start { (script : Script) (mode : Mode) (budget : ℕ) (moves : List Move) → IsRunnable script → Leads (devices_start script) (devices_after script mode budget moves) }
+    ensures start { (script : Script) (mode : Mode) (budget : ℕ) (moves : List Move) → IsRunnable script →
+        Leads (devices_start script) (devices_after script mode budget moves) }
     ensures later { (script : Script) (mode : Mode) (budget : ℕ) (before more : List Move) → IsRunnable script →
         Leads (devices_after script mode budget before) (devices_after script mode budget (more ++ before)) }
 {}
