@@ -3,3 +3,4 @@ pub mod Views
 pub mod Turns
 pub mod Ends
 pub mod Progress
+pub mod Cores

@@ -1,10 +1,11 @@
 //! The unit of a device.
 
-ghost use Rattle.std.specs.Prelude.{◌≡◌, ◌≤◌, ◌<◌, ◌+◌, ◌*◌, ◌^◌, ◌++◌, ℕ, true, false, [], IfOk, drop, length, take, vec_capacity};
+ghost use Rattle.std.specs.Prelude.{◌≡◌, ◌==◌, ◌≤◌, ◌<◌, ◌+◌, ◌*◌, ◌^◌, ◌++◌, ℕ, not, true, false, [], IfOk, drop, length, take, vec_capacity};
 ghost use Rattle.device_model.specs.Units.Stores.{Store, first_bytes, is_log, is_spoilt, log_limit, store_start};
 ghost use Rattle.device_model.specs.Units.Function.{IsWhole, appends, available, begin, block_size};
 ghost use Rattle.device_model.specs.Units.Blocks.{block as after_block, count_at, piece, written_on};
 ghost use Rattle.dev_units.specs.declared.block_end.BlockEnd.TheVariants.{More};
+ghost use Rattle.driver_model.specs.Cores.{empty_turns};
 ghost use Rattle.driver_model.specs.Ends.{error_at};
 ghost use Rattle.dev_units.specs.Ends.{block_end};
 ghost use Rattle.dev_units.specs.Progress.{CameTo, IsUnderWay, brought, partial};
@@ -164,6 +165,23 @@ impl Unit {
         };
         let room = self.available(request) as usize + before;
         (request.size as usize).min(room)
+    }
+
+    /// How many empty turns the driver makes before each block.
+    pub(crate) fn empty_turns(&self) -> u32
+        ensures { result ≡ empty_turns self.now.kind }
+    {
+        match self.kind {
+            Kind::Slow(_, turns) => turns,
+            _ => 0,
+        }
+    }
+
+    /// Whether a request has any block that moves bytes, seen from the block with that number.
+    pub(crate) fn has_block(&self, request: &Request, block: u32) -> bool
+        ensures { result ≡ not (count_at self.now.kind self.now.store request.now (block_size * block) == 0) }
+    {
+        self.count_at(request, block) != 0
     }
 
     /// The error of a request that moves so many bytes.
