@@ -18,6 +18,7 @@ pub mod RequestChecks
 pub mod Served
 pub mod Slots
 pub mod Sought
+pub mod Starting
 pub mod Stores
 pub mod SuspendChecks
 pub mod TableMoves

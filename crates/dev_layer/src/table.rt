@@ -7,7 +7,7 @@ ghost use Rattle.kernel_model.specs.Words.Orders.{free_from};
 ghost use Rattle.device_model.specs.declared.rows.Wish.TheVariants.{Nothing};
 ghost use Rattle.device_model.specs.Devices.Calls.{has_request};
 ghost use Rattle.device_model.specs.Devices.Endings.{expected};
-ghost use Rattle.device_model.specs.Devices.Handing.{any_given, emptied, hand_first, handed_all, messages};
+ghost use Rattle.device_model.specs.Devices.Handing.{any_given, any_queued, emptied, hand_first, handed_all, messages};
 ghost use Rattle.device_model.specs.Devices.Requests.{has_ended_of, has_place};
 ghost use Rattle.device_model.specs.Devices.Tables.{accepted, asked, at_driver, buffer_of, devices_start, device_ids, dropped, first_queued, free_descriptor, free_request, link_at, opened_at, queues_on, row_at, wish_of, with_buffer, with_off, with_open, with_wish};
 ghost use Rattle.dev_layer.specs.Arriving.{ended_parts};
@@ -162,10 +162,17 @@ impl Devices {
     }
 
     /// Whether any driver has a request.
-    pub(crate) fn any_given(&self) -> bool
+    pub fn any_given(&self) -> bool
         ensures { result ≡ any_given self.now }
     {
         self.links.any_given()
+    }
+
+    /// Whether any request waits for a driver.
+    pub fn any_queued(&self) -> bool
+        ensures { result ≡ any_queued self.now }
+    {
+        !self.requests.queued().is_empty()
     }
 
     /// The event buffer of a device, or 0.

@@ -1,7 +1,6 @@
 //! Small scenarios, with answers from the rules of the calls and of units. Each call is made by task 1 while nobody waits.
 
-ghost use Rattle.std.specs.Prelude.{◌≡◌, ◌≤◌, IfOk, length};
-ghost use Rattle.std.specs.List.{All};
+ghost use Rattle.std.specs.Prelude.{IfOk};
 ghost use Rattle.dev_layer.specs.Tables.{AreDevices};
 
 use super::*;
@@ -40,13 +39,19 @@ const FORCE: u32 = 16;
 
 /// What is done with the devices, and what must come of it.
 #[derive(Clone, Copy)]
-enum Step<'a> {
-    /// A call, and its answer: the value, and then the fields; no number where the task waits.
-    Call(DeviceCall, &'a [i32]),
+enum Step {
+    /// A call that answers that value.
+    Answers(DeviceCall, i32),
+    /// A call that answers that error.
+    Refused(DeviceCall, Er),
+    /// A call that leaves its task waiting.
+    Waits(DeviceCall),
+    /// A call that answers the request that has ended, with its size and error.
+    Claims(DeviceCall, Claim),
     /// So many reads of a byte by descriptor 1, which are the requests 1, 2, ..
-    Reads(i32),
-    /// Requests go to drivers where the machine is idle, by those devices.
-    Hand(Mode, &'a [u8]),
+    Reads(u8),
+    /// Requests go to drivers where the machine is idle: to the first, and to the second.
+    Hands(Mode, bool, bool),
     /// The driver of a device was told to abort its request.
     Told(u8),
     /// No ending of that kind is fit for a device.
@@ -55,6 +60,14 @@ enum Step<'a> {
     Ends(u8, How, u32, Er),
     /// That byte stands at an address of the memory.
     Shows(u32, u8),
+}
+
+/// An ended request: its ID, size and error.
+#[derive(Clone, Copy)]
+struct Claim {
+    id: i32,
+    size: i32,
+    error: Er,
 }
 
 /// A script with two devices: memory of 200 bytes, and a log.
@@ -91,32 +104,39 @@ fn counted_memory(alloc: Global) -> Result<Memory, AllocError> {
     Ok(memory)
 }
 
-/// Whether a call has that answer.
-fn is_answered(outcome: Outcome, numbers: &[i32]) -> bool {
-    match outcome {
-        Outcome::Returned(answer) => {
-            let used = (answer.used as usize).min(5);
-            numbers.len() == used + 1
-                && numbers[0] == answer.value
-                && numbers[1..] == answer.fields[..used]
-        }
-        Outcome::Blocked => numbers.is_empty(),
-        Outcome::Entered(_) => false,
-    }
-}
-
-/// Whether a call has that answer, where nobody waits and there is no message buffer.
-fn answers(
+/// A call, where nobody waits and there is no message buffer.
+fn called(
     alloc: Global,
     table: &mut Devices,
     memory: &mut Memory,
     call: &DeviceCall,
-    numbers: &[i32],
-) -> Result<bool, AllocError> {
+) -> Result<Outcome, AllocError> {
     let mut base = Base::new(alloc, 10)?;
     let mut mails = Mails::new(alloc)?;
-    let outcome = crate::call(&mut base, table, &mut mails, memory, Who::Task(1), call)?;
-    Ok(is_answered(outcome, numbers))
+    crate::call(&mut base, table, &mut mails, memory, Who::Task(1), call)
+}
+
+/// Whether a call answers that value alone.
+fn is_value(outcome: Outcome, value: i32) -> bool {
+    match outcome {
+        Outcome::Returned(answer) => answer.value == value && answer.used == 0,
+        Outcome::Blocked => false,
+        Outcome::Entered(_) => false,
+    }
+}
+
+/// Whether a call answers an ended request.
+fn is_claim(outcome: Outcome, claim: Claim) -> bool {
+    match outcome {
+        Outcome::Returned(answer) => {
+            answer.value == claim.id
+                && answer.used == 2
+                && answer.fields[0] == claim.size
+                && answer.fields[1] == claim.error.main_code()
+        }
+        Outcome::Blocked => false,
+        Outcome::Entered(_) => false,
+    }
 }
 
 /// Whether so many reads of a byte by descriptor 1 are the requests 1, 2, ..
@@ -124,45 +144,48 @@ fn are_read(
     alloc: Global,
     table: &mut Devices,
     memory: &mut Memory,
-    count: i32,
+    count: u8,
 ) -> Result<bool, AllocError> {
-    'reads: for id in 1..count + 1 {
-        if !answers(alloc, table, memory, &read(1, 0, 0, 1), &[id])? {
+    'reads: for before in 0..count {
+        let outcome = called(alloc, table, memory, &read(1, 0, 0, 1))?;
+        if !is_value(outcome, before as i32 + 1) {
             return Ok(false);
         }
     }
     Ok(true)
 }
 
-/// Whether messages are requests to those devices, in that order.
-fn are_served(messages: &[Message], devices: &[u8]) -> bool {
-    if messages.len() != devices.len() {
-        return false;
-    }
+/// Whether any message is a request to a device.
+fn any_served(messages: &[Message], device: u8) -> bool {
     'messages: for place in 0..messages.len() {
         let served = match &messages[place] {
-            Message::Serve { device, .. } => *device == devices[place],
+            Message::Serve { device: to, .. } => *to == device,
             Message::Abort { .. } => false,
             Message::Stop { .. } => false,
         };
-        if !served {
-            return false;
+        if served {
+            return true;
         }
     }
-    true
+    false
 }
 
-/// Whether requests to those devices go to drivers, where nobody waits.
+/// Whether requests go to the drivers of the first device, and of the second, where nobody waits.
 fn are_handed(
     alloc: Global,
     table: &mut Devices,
     mode: Mode,
-    devices: &[u8],
+    first: bool,
+    second: bool,
 ) -> Result<bool, AllocError> {
     let base = Base::new(alloc, 10)?;
     hand_over(&base, table, mode, true)?;
     let messages = messages(table);
-    Ok(are_served(&messages, devices))
+    Ok(
+        any_served(&messages, 1) == first
+            && any_served(&messages, 2) == second
+            && messages.len() == first as usize + second as usize,
+    )
 }
 
 /// Whether the one message is the abort of a device's request.
@@ -212,9 +235,14 @@ fn holds(
     step: Step,
 ) -> Result<bool, AllocError> {
     match step {
-        Step::Call(call, numbers) => answers(alloc, table, memory, &call, numbers),
-        Step::Reads(count) => are_read(alloc, table, memory, count.clamp(0, 64)),
-        Step::Hand(mode, devices) => are_handed(alloc, table, mode, devices),
+        Step::Answers(call, value) => Ok(is_value(called(alloc, table, memory, &call)?, value)),
+        Step::Refused(call, error) => {
+            Ok(is_value(called(alloc, table, memory, &call)?, error.main_code()))
+        }
+        Step::Waits(call) => Ok(called(alloc, table, memory, &call)? == Outcome::Blocked),
+        Step::Claims(call, claim) => Ok(is_claim(called(alloc, table, memory, &call)?, claim)),
+        Step::Reads(count) => are_read(alloc, table, memory, count),
+        Step::Hands(mode, first, second) => are_handed(alloc, table, mode, first, second),
         Step::Told(device) => Ok(is_told(table, device)),
         Step::NoEnding(device, how) => Ok(expected(table, device, how)?.is_none()),
         Step::Ends(device, how, size, error) => {
@@ -248,6 +276,11 @@ fn open(device: u8, mode: u32) -> DeviceCall {
     }
 }
 
+/// A descriptor is closed.
+fn close(descriptor: i32) -> DeviceCall {
+    DeviceCall::ClsDev { descriptor }
+}
+
 /// A read into the memory, which isn't waited for.
 fn read(descriptor: i32, start: i32, address: i32, size: i32) -> DeviceCall {
     DeviceCall::ReaDev {
@@ -270,6 +303,11 @@ fn write(descriptor: i32, start: i32, address: i32, size: i32) -> DeviceCall {
     }
 }
 
+/// The ending of a request is claimed, or of any by 0, which has that ID, size and error.
+fn claims(descriptor: i32, request: i32, id: i32, size: i32, error: Er) -> Step {
+    Step::Claims(wait(descriptor, request), Claim { id, size, error })
+}
+
 /// The ending of a request is asked for, and isn't waited for.
 fn wait(descriptor: i32, request: i32) -> DeviceCall {
     DeviceCall::WaiDev {
@@ -288,19 +326,18 @@ fn suspend(mode: u32) -> DeviceCall {
 
 #[test]
 fn a_device_is_open_in_ways_that_do_not_clash(rt: HostRuntime) -> Result<(), Fail> {
-    let busy = [Er::Busy.main_code()];
     let steps = [
-        Step::Call(open(1, READ), &[1]),
-        Step::Call(open(1, WRITE + NO_WRITER), &[2]),
-        Step::Call(open(1, WRITE), &busy),
-        Step::Call(open(1, READ + EXCLUSIVE), &busy),
-        Step::Call(open(2, UPDATE + EXCLUSIVE), &[3]),
-        Step::Call(open(2, READ), &busy),
-        Step::Call(open(2, READ + WRITE), &[Er::Par.main_code()]),
-        Step::Call(open(3, READ), &[Er::NoExs.main_code()]),
-        Step::Call(DeviceCall::ClsDev { descriptor: 1 }, &[0]),
-        Step::Call(read(1, 0, 0, 1), &[Er::Id.main_code()]),
-        Step::Call(open(1, READ), &[1]),
+        Step::Answers(open(1, READ), 1),
+        Step::Answers(open(1, WRITE + NO_WRITER), 2),
+        Step::Refused(open(1, WRITE), Er::Busy),
+        Step::Refused(open(1, READ + EXCLUSIVE), Er::Busy),
+        Step::Answers(open(2, UPDATE + EXCLUSIVE), 3),
+        Step::Refused(open(2, READ), Er::Busy),
+        Step::Refused(open(2, READ + WRITE), Er::Par),
+        Step::Refused(open(3, READ), Er::NoExs),
+        Step::Answers(close(1), 0),
+        Step::Refused(read(1, 0, 0, 1), Er::Id),
+        Step::Answers(open(1, READ), 1),
     ];
     assert_eq!(rt; first_wrong(rt.alloc(), &steps)?, None);
     Ok(())
@@ -309,17 +346,17 @@ fn a_device_is_open_in_ways_that_do_not_clash(rt: HostRuntime) -> Result<(), Fai
 #[test]
 fn a_device_has_sixteen_requests_that_have_not_ended(rt: HostRuntime) -> Result<(), Fail> {
     let steps = [
-        Step::Call(open(1, READ), &[1]),
-        Step::Call(open(2, UPDATE), &[2]),
+        Step::Answers(open(1, READ), 1),
+        Step::Answers(open(2, UPDATE), 2),
         Step::Reads(16),
-        Step::Call(read(1, 0, 0, 1), &[Er::TmOut.main_code()]),
-        Step::Call(write(1, 0, 0, 1), &[Er::OaCv.main_code()]),
-        Step::Call(write(2, 0, 0, 1), &[17]),
-        Step::Hand(Mode::Sync, &[1]),
-        Step::Hand(Mode::Free, &[2]),
-        Step::Hand(Mode::Free, &[]),
+        Step::Refused(read(1, 0, 0, 1), Er::TmOut),
+        Step::Refused(write(1, 0, 0, 1), Er::OaCv),
+        Step::Answers(write(2, 0, 0, 1), 17),
+        Step::Hands(Mode::Sync, true, false),
         Step::Ends(1, How::Done, 1, Er::Ok),
-        Step::Call(read(1, 0, 0, 1), &[18]),
+        Step::Hands(Mode::Free, true, true),
+        Step::Hands(Mode::Free, false, false),
+        Step::Answers(read(1, 0, 0, 1), 18),
     ];
     assert_eq!(rt; first_wrong(rt.alloc(), &steps)?, None);
     Ok(())
@@ -328,18 +365,18 @@ fn a_device_has_sixteen_requests_that_have_not_ended(rt: HostRuntime) -> Result<
 #[test]
 fn bytes_go_to_a_unit_and_come_back(rt: HostRuntime) -> Result<(), Fail> {
     let steps = [
-        Step::Call(open(1, UPDATE), &[1]),
-        Step::Call(write(1, 150, 10, 100), &[1]),
-        Step::Call(read(1, 148, 300, 10), &[2]),
-        Step::Hand(Mode::Free, &[1]),
+        Step::Answers(open(1, UPDATE), 1),
+        Step::Answers(write(1, 150, 10, 100), 1),
+        Step::Answers(read(1, 148, 300, 10), 2),
+        Step::Hands(Mode::Free, true, false),
         Step::Ends(1, How::Done, 50, Er::Ok),
-        Step::Call(wait(1, 0), &[1, 50, 0]),
-        Step::Hand(Mode::Free, &[1]),
+        claims(1, 0, 1, 50, Er::Ok),
+        Step::Hands(Mode::Free, true, false),
         Step::Ends(1, How::Done, 10, Er::Ok),
         Step::Shows(301, 0),
         Step::Shows(309, 17),
-        Step::Call(wait(1, 2), &[2, 10, 0]),
-        Step::Call(wait(1, 0), &[Er::NoExs.main_code()]),
+        claims(1, 2, 2, 10, Er::Ok),
+        Step::Refused(wait(1, 0), Er::NoExs),
     ];
     assert_eq!(rt; first_wrong(rt.alloc(), &steps)?, None);
     Ok(())
@@ -348,18 +385,18 @@ fn bytes_go_to_a_unit_and_come_back(rt: HostRuntime) -> Result<(), Fail> {
 #[test]
 fn a_request_is_aborted_where_its_descriptor_is_closed(rt: HostRuntime) -> Result<(), Fail> {
     let steps = [
-        Step::Call(open(2, UPDATE), &[1]),
-        Step::Call(write(1, 0, 0, 150), &[1]),
-        Step::Hand(Mode::Sync, &[2]),
+        Step::Answers(open(2, UPDATE), 1),
+        Step::Answers(write(1, 0, 0, 150), 1),
+        Step::Hands(Mode::Sync, false, true),
         Step::NoEnding(2, How::Cut(64)),
-        Step::Call(DeviceCall::ClsDev { descriptor: 1 }, &[]),
+        Step::Waits(close(1)),
         Step::Told(2),
         Step::NoEnding(2, How::Cut(63)),
         Step::NoEnding(2, How::Cut(192)),
         Step::Ends(2, How::Cut(64), 64, Er::Abort),
-        Step::Call(open(2, READ), &[1]),
-        Step::Call(read(1, 0, 0, 0), &[1]),
-        Step::Hand(Mode::Free, &[2]),
+        Step::Answers(open(2, READ), 1),
+        Step::Answers(read(1, 0, 0, 0), 1),
+        Step::Hands(Mode::Free, false, true),
         Step::Ends(2, How::Done, 64, Er::Ok),
     ];
     assert_eq!(rt; first_wrong(rt.alloc(), &steps)?, None);
@@ -369,18 +406,18 @@ fn a_request_is_aborted_where_its_descriptor_is_closed(rt: HostRuntime) -> Resul
 #[test]
 fn devices_are_suspended_unless_that_is_disabled(rt: HostRuntime) -> Result<(), Fail> {
     let steps = [
-        Step::Call(suspend(CHECK), &[0]),
-        Step::Call(suspend(ENABLE), &[0]),
-        Step::Call(suspend(DISABLE), &[1]),
-        Step::Call(suspend(SUSPEND), &[Er::Busy.main_code()]),
-        Step::Call(suspend(SUSPEND + FORCE), &[1]),
-        Step::Call(suspend(CHECK + FORCE), &[Er::Par.main_code()]),
-        Step::Call(suspend(ENABLE), &[0]),
-        Step::Call(open(1, READ), &[1]),
-        Step::Call(read(1, 0, 0, 1), &[1]),
-        Step::Call(suspend(SUSPEND), &[0]),
-        Step::Hand(Mode::Free, &[1]),
-        Step::Call(suspend(SUSPEND), &[]),
+        Step::Answers(suspend(CHECK), 0),
+        Step::Answers(suspend(ENABLE), 0),
+        Step::Answers(suspend(DISABLE), 1),
+        Step::Refused(suspend(SUSPEND), Er::Busy),
+        Step::Answers(suspend(SUSPEND + FORCE), 1),
+        Step::Refused(suspend(CHECK + FORCE), Er::Par),
+        Step::Answers(suspend(ENABLE), 0),
+        Step::Answers(open(1, READ), 1),
+        Step::Answers(read(1, 0, 0, 1), 1),
+        Step::Answers(suspend(SUSPEND), 0),
+        Step::Hands(Mode::Free, true, false),
+        Step::Waits(suspend(SUSPEND)),
     ];
     assert_eq!(rt; first_wrong(rt.alloc(), &steps)?, None);
     Ok(())
@@ -395,17 +432,17 @@ fn requests_for_the_event_buffer_end_at_once(rt: HostRuntime) -> Result<(), Fail
         size: 4,
     };
     let steps = [
-        Step::Call(open(1, UPDATE), &[1]),
-        Step::Call(read(1, -1, 0, 0), &[1]),
-        Step::Call(wait(1, 1), &[1, 4, 0]),
-        Step::Call(read(1, -1, 0, 5), &[1]),
-        Step::Call(wait(1, 1), &[1, 0, Er::Par.main_code()]),
-        Step::Call(write(1, -1, 0, 4), &[1]),
-        Step::Call(wait(1, 1), &[1, 0, Er::NoExs.main_code()]),
-        Step::Call(write(1, -1, 300, 4), &[1]),
-        Step::Call(wait(1, 1), &[1, 4, 0]),
-        Step::Call(whole, &[4]),
-        Step::Call(read(1, -2, 0, 1), &[Er::Par.main_code()]),
+        Step::Answers(open(1, UPDATE), 1),
+        Step::Answers(read(1, -1, 0, 0), 1),
+        claims(1, 1, 1, 4, Er::Ok),
+        Step::Answers(read(1, -1, 0, 5), 1),
+        claims(1, 1, 1, 0, Er::Par),
+        Step::Answers(write(1, -1, 0, 4), 1),
+        claims(1, 1, 1, 0, Er::NoExs),
+        Step::Answers(write(1, -1, 300, 4), 1),
+        claims(1, 1, 1, 4, Er::Ok),
+        Step::Answers(whole, 4),
+        Step::Refused(read(1, -2, 0, 1), Er::Par),
     ];
     assert_eq!(rt; first_wrong(rt.alloc(), &steps)?, None);
     Ok(())

@@ -42,7 +42,7 @@ and_first true other is = refl
 and_first false other is = absurd (cc is)
 
 -- an ending that says aborted was asked
-plain_unless : (kind : Kind) (store : Store) (given : Given) (how : How) → is_allowed kind store given how ≡ true → given.asked ≡ false → is_abort (served_of kind store given.request how).error ≡ false
+pub plain_unless : (kind : Kind) (store : Store) (given : Given) (how : How) → is_allowed kind store given how ≡ true → given.asked ≡ false → is_abort (served_of kind store given.request how).error ≡ false
 plain_unless kind store given Done fit asked = unit_plain kind store given.request
 plain_unless kind store given (Cut count) fit asked = absurd (cc (asked, and_first given.asked (may_cut kind store given.request count) fit))
 
@@ -165,7 +165,7 @@ moved_unasked dv Takes none before = λ d. ap asked_in (emptied_given dv d) ∙ 
 changed_plain : (dv : Devices) (old row : Row) → NoneAborted dv → is_aborted old.life ≡ false → Change dv old row → is_aborted row.life ≡ false
 changed_plain dv old row before plain (Same is) = ap (λ (r : Row). is_aborted r.life) is ∙ plain
 changed_plain dv old row before plain (Went queued is) = ap (λ (r : Row). is_aborted r.life) is
-changed_plain dv old row before plain (Came away d link given how linked has fit is) =
+changed_plain dv old row before plain (Came away d link given how linked has fit its is) =
     let unasked : given.asked ≡ false = ap (λ (o : Option Given). asked_in o) (sym has) ∙ (ap (λ (o : Option Link). asked_in (given_in o)) (sym linked) ∙ before.drivers d) in
     ap (λ (r : Row). is_aborted r.life) is ∙ plain_unless link.kind link.store given how fit unasked
 
@@ -175,7 +175,7 @@ moved_plain dv move none before = record {
   requests = λ id row there. by_row id row ((moved_follows dv move).rows id row there);
 }
   where
-    by_row : (id : ℕ) (row : Row) → ((id ≡ (moved_follows dv move).fresh) × (row.serial ≡ dv.serial) × (dv.serial < (moved dv move).serial) × (is_aborted row.life ≡ false)) ⊎ From dv id row → is_aborted row.life ≡ false
+    by_row : (id : ℕ) (row : Row) → ((id ≡ (moved_follows dv move).fresh) × (row.serial ≡ dv.serial) × (dv.serial < (moved dv move).serial) × (is_aborted row.life ≡ false) × (is_at_driver row.life ≡ false)) ⊎ From dv id row → is_aborted row.life ≡ false
     by_row id row (inl new) = new.3
     by_row id row (inr from) = changed_plain dv from.before row before (before.requests id from.before from.there) from.change
 

@@ -28,7 +28,8 @@ pub data Change (dv : Devices) (before after : Row) : Type 0 where
   Same : (is : after ≡ before) → Change dv before after
   Went : (queued : is_queued before.life ≡ true) (is : after ≡ record before { bytes = []; life = AtDriver }) → Change dv before after
   Came : (away : is_at_driver before.life ≡ true) (d : ℕ) (link : Link) (given : Given) (how : How) (linked : link_at dv d ≡ Some link) (has : link.given ≡ Some given)
-      (fit : is_allowed link.kind link.store given how ≡ true) (is : after ≡ record before { life = Ended (served_of link.kind link.store given.request how).size (served_of link.kind link.store given.request how).error }) → Change dv before after
+      (fit : is_allowed link.kind link.store given how ≡ true) (its : row_at dv given.request.id ≡ Some before)
+      (is : after ≡ record before { life = Ended (served_of link.kind link.store given.request how).size (served_of link.kind link.store given.request how).error }) → Change dv before after
 
 pub record From (dv : Devices) (id : ℕ) (row : Row) : Type 0 where
   pub before : Row
@@ -39,7 +40,7 @@ pub record From (dv : Devices) (id : ℕ) (row : Row) : Type 0 where
 pub record Follows (dv after : Devices) : Type 0 where
   pub fresh : ℕ
   pub serials : dv.serial ≤ after.serial
-  pub rows : (id : ℕ) (row : Row) → row_at after id ≡ Some row → ((id ≡ fresh) × (row.serial ≡ dv.serial) × (dv.serial < after.serial) × (is_aborted row.life ≡ false)) ⊎ From dv id row
+  pub rows : (id : ℕ) (row : Row) → row_at after id ≡ Some row → ((id ≡ fresh) × (row.serial ≡ dv.serial) × (dv.serial < after.serial) × (is_aborted row.life ≡ false) × (is_at_driver row.life ≡ false)) ⊎ From dv id row
 
 -- a table with the same requests
 same_rows : (dv after : Devices) → after.rows ≡ dv.rows → after.serial ≡ dv.serial → Follows dv after
@@ -60,7 +61,7 @@ one_row dv after id slot rows serial comes = record {
   rows = λ other row there. by_slot other row (slot_of dv.rows id other slot row (ap (λ slots. entry slots other) (sym rows) ∙ there));
 }
   where
-    by_slot : (other : ℕ) (row : Row) → ((other ≡ id) × (slot ≡ Some row)) ⊎ (entry dv.rows other ≡ Some row) → ((other ≡ 0) × (row.serial ≡ dv.serial) × (dv.serial < after.serial) × (is_aborted row.life ≡ false)) ⊎ From dv other row
+    by_slot : (other : ℕ) (row : Row) → ((other ≡ id) × (slot ≡ Some row)) ⊎ (entry dv.rows other ≡ Some row) → ((other ≡ 0) × (row.serial ≡ dv.serial) × (dv.serial < after.serial) × (is_aborted row.life ≡ false) × (is_at_driver row.life ≡ false)) ⊎ From dv other row
     by_slot other row (inl written) = inr (subst (λ (n : ℕ). From dv n row) (sym written.0) (comes row written.1))
     by_slot other row (inr old) = inr (record { before = row; there = old; change = Same refl })
 
@@ -72,21 +73,25 @@ abbrev aborted_in : Option Row → Bool
 aborted_in None = false
 aborted_in (Some row) = is_aborted row.life
 
-accepted_new : (dv : Devices) (id : ℕ) (new : Row) (slot : Option Row) → is_aborted new.life ≡ false → Follows dv (accepted_in slot dv id new)
-accepted_new dv id new (Some other) plain = itself dv
-accepted_new dv id new None plain = record {
+abbrev away_in : Option Row → Bool
+away_in None = false
+away_in (Some row) = is_at_driver row.life
+
+accepted_new : (dv : Devices) (id : ℕ) (new : Row) (slot : Option Row) → is_aborted new.life ≡ false → is_at_driver new.life ≡ false → Follows dv (accepted_in slot dv id new)
+accepted_new dv id new (Some other) plain apart = itself dv
+accepted_new dv id new None plain apart = record {
   fresh = id;
   serials = omega arith;
   rows = λ other row there. by_slot other row (slot_of dv.rows id other (Some (record new { serial = dv.serial })) row there);
 }
   where
-    by_slot : (other : ℕ) (row : Row) → ((other ≡ id) × (Some (record new { serial = dv.serial }) ≡ Some row)) ⊎ (entry dv.rows other ≡ Some row) → ((other ≡ id) × (row.serial ≡ dv.serial) × (dv.serial < dv.serial + 1) × (is_aborted row.life ≡ false)) ⊎ From dv other row
-    by_slot other row (inl written) = inl (written.0, sym (ap (λ (o : Option Row). serial_or o dv.serial) written.1), omega arith, sym (ap (λ (o : Option Row). aborted_in o) written.1) ∙ plain)
+    by_slot : (other : ℕ) (row : Row) → ((other ≡ id) × (Some (record new { serial = dv.serial }) ≡ Some row)) ⊎ (entry dv.rows other ≡ Some row) → ((other ≡ id) × (row.serial ≡ dv.serial) × (dv.serial < dv.serial + 1) × (is_aborted row.life ≡ false) × (is_at_driver row.life ≡ false)) ⊎ From dv other row
+    by_slot other row (inl written) = inl (written.0, sym (ap (λ (o : Option Row). serial_or o dv.serial) written.1), omega arith, sym (ap (λ (o : Option Row). aborted_in o) written.1) ∙ plain, sym (ap (λ (o : Option Row). away_in o) written.1) ∙ apart)
     by_slot other row (inr old) = inr (record { before = row; there = old; change = Same refl })
 
-accepted_follows : (dv : Devices) (id : ℕ) (new : Row) → is_aborted new.life ≡ false → Follows dv (accepted dv id new)
+accepted_follows : (dv : Devices) (id : ℕ) (new : Row) → is_aborted new.life ≡ false → is_at_driver new.life ≡ false → Follows dv (accepted dv id new)
 unfolding accepted
-accepted_follows dv id new plain = accepted_new dv id new (row_at dv id) plain
+accepted_follows dv id new plain apart = accepted_new dv id new (row_at dv id) plain apart
 
 dropped_by : (dv : Devices) (id : ℕ) (away : Bool) (queued ended : List ℕ) → Follows dv (if away then dv else record dv { rows = slice_set dv.rows id None; queued = queued; ended = ended })
 dropped_by dv id true queued ended = itself dv
@@ -180,7 +185,7 @@ ended_by_life dv d link given how row linked has fit there true is =
     let served : Served = served_of link.kind link.store given.request how in
     let after : Devices = ended_at dv d link given.request.id row served in
     one_row dv after given.request.id (Some (record row { life = Ended served.size served.error })) refl refl
-    (λ now same. record { before = row; there = there; change = Came is d link given how linked has fit (sym (ap (λ (o : Option Row). row_or o row) same)) })
+    (λ now same. record { before = row; there = there; change = Came is d link given how linked has fit there (sym (ap (λ (o : Option Row). row_or o row) same)) })
 
 ended_by_row : (dv : Devices) (d : ℕ) (link : Link) (given : Given) (how : How) → link_at dv d ≡ Some link → link.given ≡ Some given → is_allowed link.kind link.store given how ≡ true →
     (slot : Option Row) → row_at dv given.request.id ≡ slot → Follows dv (ended_row dv d link given how slot)
@@ -211,7 +216,7 @@ moved_follows dv (Opens dd slot) = same_rows dv _ refl refl
 moved_follows dv (Wishes t wish) = same_rows dv _ refl refl
 moved_follows dv (Buffers d id) = same_rows dv _ refl refl
 moved_follows dv (Offs off) = same_rows dv _ refl refl
-moved_follows dv (Accepts id row new) = accepted_follows dv id row new.unaborted
+moved_follows dv (Accepts id row new) = accepted_follows dv id row new.unaborted new.apart
 moved_follows dv (Drops id) = dropped_follows dv id
 moved_follows dv (Hands d) = handed_follows dv d
 moved_follows dv (Asks d) = asked_follows dv d

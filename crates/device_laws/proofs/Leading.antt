@@ -8,7 +8,7 @@ use Rattle.device_model.specs.Devices.Handing.{emptied}
 use Rattle.device_model.specs.Devices.MoveProofs.{IsMoveProof, IsArrivalProof}
 use Rattle.device_laws.specs.Moves.{Move, Opens, Wishes, Buffers, Offs, Accepts, Drops, Hands, Asks, Arrives, Takes, ended, ended_given, ended_if, ended_link, ended_row, moved, all_moved, Leads}
 
-fold_more : (moves : List Move) (move : Move) (dv : Devices) → fold moved dv (moves ++ move ∷ []) ≡ moved (fold moved dv moves) move
+pub fold_more : (moves : List Move) (move : Move) (dv : Devices) → fold moved dv (moves ++ move ∷ []) ≡ moved (fold moved dv moves) move
 fold_more [] move dv = refl
 fold_more (first ∷ moves) move dv = fold_more moves move (moved dv first)
 
@@ -55,6 +55,9 @@ arriving dv = record {
 }
 
 -- messages that are taken are a move
-pub taking : (dv : Devices) → Leads dv (emptied dv)
+pub takes : (dv now : Devices) → Leads dv now → Leads dv (emptied now)
 unfolding moved
-taking dv = one_more dv dv (emptied dv) Takes refl (no_moves dv)
+takes dv now = one_more dv now (emptied now) Takes refl
+
+pub taking : (dv : Devices) → Leads dv (emptied dv)
+taking dv = takes dv dv (no_moves dv)

@@ -8,3 +8,4 @@ pub mod Aborts
 pub mod Handing
 pub mod Fits
 pub mod Ties
+pub mod Asked

@@ -14,9 +14,9 @@ use Rattle.device_laws.proofs.Follows.{Change, Same, Went, Came, From, Follows, 
 same_serial : (dv : Devices) (before after : Row) → Change dv before after → after.serial ≡ before.serial
 same_serial dv before after (Same is) = ap (λ (row : Row). row.serial) is
 same_serial dv before after (Went queued is) = ap (λ (row : Row). row.serial) is
-same_serial dv before after (Came away d link given how linked has fit is) = ap (λ (row : Row). row.serial) is
+same_serial dv before after (Came away d link given how linked has fit its is) = ap (λ (row : Row). row.serial) is
 
-from_before : (dv : Devices) (id : ℕ) (row : Row) → (from : From dv id row) → row.serial ≡ from.before.serial
+pub from_before : (dv : Devices) (id : ℕ) (row : Row) → (from : From dv id row) → row.serial ≡ from.before.serial
 from_before dv id row from = same_serial dv from.before row from.change
 
 -- ---- serials
@@ -27,13 +27,13 @@ apart_kept dv after follows before = record {
   apart = λ id other row second there also same. by_both id other row second same (follows.rows id row there) (follows.rows other second also);
 }
   where
-    by_one : (id : ℕ) (row : Row) → ((id ≡ follows.fresh) × (row.serial ≡ dv.serial) × (dv.serial < after.serial) × (is_aborted row.life ≡ false)) ⊎ From dv id row → row.serial < after.serial
+    by_one : (id : ℕ) (row : Row) → ((id ≡ follows.fresh) × (row.serial ≡ dv.serial) × (dv.serial < after.serial) × (is_aborted row.life ≡ false) × (is_at_driver row.life ≡ false)) ⊎ From dv id row → row.serial < after.serial
     by_one id row (inl new) = omega (arith, new.1, new.2)
     by_one id row (inr from) = let old : from.before.serial < dv.serial = before.given id from.before from.there in let same : row.serial ≡ from.before.serial = from_before dv id row from in omega (arith, old, same, follows.serials)
 
     by_both : (id other : ℕ) (row second : Row) → row.serial ≡ second.serial →
-        ((id ≡ follows.fresh) × (row.serial ≡ dv.serial) × (dv.serial < after.serial) × (is_aborted row.life ≡ false)) ⊎ From dv id row →
-        ((other ≡ follows.fresh) × (second.serial ≡ dv.serial) × (dv.serial < after.serial) × (is_aborted second.life ≡ false)) ⊎ From dv other second → id ≡ other
+        ((id ≡ follows.fresh) × (row.serial ≡ dv.serial) × (dv.serial < after.serial) × (is_aborted row.life ≡ false) × (is_at_driver row.life ≡ false)) ⊎ From dv id row →
+        ((other ≡ follows.fresh) × (second.serial ≡ dv.serial) × (dv.serial < after.serial) × (is_aborted second.life ≡ false) × (is_at_driver second.life ≡ false)) ⊎ From dv other second → id ≡ other
     by_both id other row second same (inl new) (inl also) = new.0 ∙ sym also.0
     by_both id other row second same (inl new) (inr from) = let old : from.before.serial < dv.serial = before.given other from.before from.there in let kept : second.serial ≡ from.before.serial = from_before dv other second from in absurd (omega (arith, old, kept, same, new.1))
     by_both id other row second same (inr from) (inl also) = let old : from.before.serial < dv.serial = before.given id from.before from.there in let kept : row.serial ≡ from.before.serial = from_before dv id row from in absurd (omega (arith, old, kept, same, also.1))
@@ -44,7 +44,7 @@ pub stay_apart : (moves : List Move) (dv : Devices) → AreApart dv → AreApart
 unfolding all_moved
 stay_apart moves dv before = all_keep AreApart apart_kept moves dv before
 
-nothing_there : (n id : ℕ) (row : Row) → entry (replicate n None) id ≡ Some row → ⊥
+pub nothing_there : (n id : ℕ) (row : Row) → entry (replicate n None) id ≡ Some row → ⊥
 nothing_there zero id row there = absurd (cc there)
 nothing_there (suc n) zero row there = absurd (cc there)
 nothing_there (suc n) (suc id) row there = nothing_there n id row there
@@ -64,7 +64,7 @@ gone_kept serial dv after follows before = record {
   gone = λ id row there same. by_row id row same (follows.rows id row there);
 }
   where
-    by_row : (id : ℕ) (row : Row) → row.serial ≡ serial → ((id ≡ follows.fresh) × (row.serial ≡ dv.serial) × (dv.serial < after.serial) × (is_aborted row.life ≡ false)) ⊎ From dv id row → ⊥
+    by_row : (id : ℕ) (row : Row) → row.serial ≡ serial → ((id ≡ follows.fresh) × (row.serial ≡ dv.serial) × (dv.serial < after.serial) × (is_aborted row.life ≡ false) × (is_at_driver row.life ≡ false)) ⊎ From dv id row → ⊥
     by_row id row same (inl new) = omega (arith, before.given, same, new.1)
     by_row id row same (inr from) = before.gone id from.before from.there (sym (from_before dv id row from) ∙ same)
 
@@ -93,9 +93,9 @@ so_kept first over dv after follows before = record {
     by_change : (row old : Row) → old ≡ first → Change dv old row → row ≡ first
     by_change row old is (Same kept) = kept ∙ is
     by_change row old is (Went queued went) = absurd (neither first.life over (ap (λ (r : Row). is_queued r.life) (sym is) ∙ queued))
-    by_change row old is (Came away d link given how linked has fit came) = absurd (nor first.life over (ap (λ (r : Row). is_at_driver r.life) (sym is) ∙ away))
+    by_change row old is (Came away d link given how linked has fit its came) = absurd (nor first.life over (ap (λ (r : Row). is_at_driver r.life) (sym is) ∙ away))
 
-    by_row : (id : ℕ) (row : Row) → row.serial ≡ first.serial → ((id ≡ follows.fresh) × (row.serial ≡ dv.serial) × (dv.serial < after.serial) × (is_aborted row.life ≡ false)) ⊎ From dv id row → row ≡ first
+    by_row : (id : ℕ) (row : Row) → row.serial ≡ first.serial → ((id ≡ follows.fresh) × (row.serial ≡ dv.serial) × (dv.serial < after.serial) × (is_aborted row.life ≡ false) × (is_at_driver row.life ≡ false)) ⊎ From dv id row → row ≡ first
     by_row id row same (inl new) = absurd (omega (arith, before.given, same, new.1))
     by_row id row same (inr from) = by_change row from.before (before.so id from.before from.there (sym (from_before dv id row from) ∙ same)) from.change
 

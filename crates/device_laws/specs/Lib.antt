@@ -2,3 +2,4 @@ pub mod Words
 pub mod Moves
 pub mod Requests
 pub mod Claims
+pub mod Asked

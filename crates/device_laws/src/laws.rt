@@ -21,6 +21,7 @@ ghost use Rattle.device_model.specs.Devices.Handing.{emptied, hand_over, hand_fi
 ghost use Rattle.device_model.specs.Devices.Servings.{serve_acceptances, serve_endings, serve_closes, serve_suspension};
 ghost use Rattle.device_model.specs.Devices.Calls.{device_call};
 ghost use Rattle.device_model.specs.Devices.MoveProofs.{is_abort};
+ghost use Rattle.device_laws.specs.Asked.{AllWereAsked};
 ghost use Rattle.device_laws.specs.Claims.{HandsOut, Serves};
 ghost use Rattle.device_laws.specs.Moves.{Leads, LeadsIfAny, Move, all_moved, asks, lets_go};
 ghost use Rattle.device_laws.specs.Requests.{AreApart, IsGone, IsThere, AreTied, NoneAborted, StaysSo, is_asked};
@@ -65,11 +66,13 @@ pub fn an_id_is_taken_until_its_request_is_let_go()
 {}
 
 /// A request ends aborted only where that was asked: an ending that cuts it off is fit only where its driver was asked, any
-/// other says no abort, and where no driver is asked none ends aborted.
+/// other says no abort, and where no driver is asked none ends aborted. Each that has ended aborted was asked to before, while its
+/// driver had it.
 pub fn a_request_is_aborted_only_where_that_was_asked()
     ensures cut { (dv : Devices) (d count : ℕ) (ending : Ending) → expected dv d (Cut count) ≡ Some ending → is_asked dv d ≡ true }
     ensures done { (dv : Devices) (d : ℕ) (ending : Ending) → expected dv d Done ≡ Some ending → is_abort ending.error ≡ false }
     ensures none { (dv : Devices) (moves : List Move) → list_any asks moves ≡ false → NoneAborted dv → NoneAborted (all_moved dv moves) }
+    ensures before { (dv : Devices) (moves : List Move) → AreTied dv → NoneAborted dv → AllWereAsked dv moves }
 {}
 
 /// What is handed out is the ending of a request of the descriptor that was asked for, and it is let go with that: by

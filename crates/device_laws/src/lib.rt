@@ -1,4 +1,5 @@
-//! Laws of devices and their requests, which stand beside the definitions of `device_model`. Nothing is built on this crate.
+//! Laws of devices and their requests, which stand beside the definitions of `device_model`. Other laws cite
+//! its lemmas; no code is built on it.
 #![tactic(auto)]
 
 pub mod laws;

@@ -1,32 +1,27 @@
 -- The live blocks of variable pools lie apart in every state that a machine comes to: each call and each serving leaves them so,
 -- since whoever waits for a variable pool has asked for some bytes.
-use Rattle.std.proofs.Common.{◌≡◌, ℕ, ◌≤◌, ◌<◌, true, List, [], ◌∷◌, Option, Some, None, length, refl, subst, arith}
+use Rattle.std.proofs.Common.{◌≡◌, ℕ, ◌≤◌, ◌<◌, true, List, Option, Some, None, length, refl, subst, arith}
 use Rattle.std.specs.Option.{option_map}
-use Rattle.std.specs.Prelude.{drop}
 use Rattle.tk_types.specs.declared.run.Mode.{Mode}
 use Rattle.tk_types.specs.declared.run.Mode.TheVariants as modes
 use Rattle.tk_types.specs.declared.script.Script.{Script}
 use Rattle.kernel_model.specs.Bodies.Statements.{IsRunnable}
 use Rattle.kernel_model.specs.Tasks.Base.{waits_for}
 use Rattle.kernel_model.specs.SemFlags.Tables.{serve_sem_flag}
-use Rattle.kernel_lemmas.proofs.Tables.{entry_each, entry_same}
 use Rattle.object_model.specs.Mutexes.Tables.{serve_mutexes}
 use Rattle.object_model.specs.Mails.Boxes.{serve_mailboxes}
 use Rattle.object_model.specs.Mails.Buffers.{serve_buffers}
-use Rattle.object_model.specs.Pools.Tables.{VariablePool, Pools, PoolParts, size_of, variable_at, variable_object, with_variable}
+use Rattle.object_model.specs.Pools.Tables.{Pools, PoolParts, size_of, variable_object}
 use Rattle.object_model.specs.Pools.Fixed.{serve_fixed_pools}
-use Rattle.object_model.specs.Pools.Variable.{block_given, insert_block, place_in, serve_variable, serve_variable_at, serve_variable_pools, variable_serves, variable_waiters}
+use Rattle.object_model.specs.Pools.Variable.{serve_variable_pools}
 use Rattle.device_model.specs.Devices.Servings.{serve_acceptances, serve_closes, serve_endings, serve_suspension}
 use Rattle.machine_model.specs.Events.Settle.{handed}
 use Rattle.machine_model.specs.Runs.Reached.{Move, state_after}
 use Rattle.machine_model.specs.Runs.Trace.{start}
 use Rattle.machine_model.specs.States.Objects.{Parts, dev_parts, first_serving, mail_parts, pool_parts, serve_object, with_devices, with_mails, with_mutexes, with_pools, with_sem_flags}
 use Rattle.machine_model.specs.States.State.{parts_of, state_start}
-use Rattle.mail_laws.proofs.Waits.{first_waits}
-use Rattle.pool_laws.specs.Blocks.{AllLieApart, LieApart, LieApartIn}
-use Rattle.pool_laws.proofs.Apart.{call_apart, fixed_apart, start_apart}
-use Rattle.pool_laws.proofs.Placing.{joined}
-use Rattle.machine_lemmas.proofs.Finding.{first_from}
+use Rattle.pool_laws.specs.Blocks.{AllLieApart}
+use Rattle.pool_laws.proofs.Apart.{call_apart, fixed_apart, start_apart, variable_apart}
 use Rattle.machine_lemmas.proofs.Reached.{start_has}
 use Rattle.table_lemmas.proofs.ShortPools.{PoolsShort, fixed_served_short, pool_calls_short, variable_served_short}
 use Rattle.table_lemmas.proofs.Slots.{IfServed}
@@ -35,62 +30,10 @@ use Rattle.ask_lemmas.proofs.WholeWalk.{IsKeptWhole, reached_whole}
 
 -- ---- a serving of a variable pool
 
--- each task that waits for a variable pool has asked for some bytes
-abbrev AskForBytes : PoolParts → Type 0
-AskForBytes p = (id t : ℕ) → 1 ≤ id → id ≤ 64 → waits_for p.base (variable_object id) t ≡ true → 0 < size_of p.table t
-
-ApartIf : Option PoolParts → Type 0
-ApartIf None = Unit {0}
-ApartIf (Some q) = AllLieApart q.table
-
-apart_there : (o : Option PoolParts) (q : PoolParts) → ApartIf o → o ≡ Some q → AllLieApart q.table
-unfolding ApartIf
-apart_there None q apart is = absurd (cc is)
-apart_there (Some now) q apart is = let same : now ≡ q = cc is in subst (λ (parts : PoolParts). AllLieApart parts.table) same apart
-
-placed_apart : (m : Pools) (id : ℕ) (k : VariablePool) (n offset : ℕ) → AllLieApart m → variable_at m id ≡ Some k → 0 < n → place_in k n ≡ Some offset →
-    AllLieApart (with_variable m id (Some (record k { blocks = insert_block (record { offset = offset; size = n }) k.blocks })))
-placed_apart m id k n offset apart at some is =
-    let before : LieApart k = subst LieApartIn at (apart id) in
-    let now = joined 0 k.size n offset k.blocks before some is in
-    entry_each (λ j (o : Option VariablePool). LieApartIn o) m.variable id _ (entry_same LieApartIn m.variable id _ now tt) (λ j other. apart j)
-
-given_apart : (p : PoolParts) (id : ℕ) (k : VariablePool) (t : ℕ) (place : Option ℕ) → AllLieApart p.table → variable_at p.table id ≡ Some k → 0 < size_of p.table t →
-    place_in k (size_of p.table t) ≡ place → ApartIf (block_given p id k t place)
-unfolding ApartIf
-given_apart p id k t None apart at some is = tt
-given_apart p id k t (Some offset) apart at some is = placed_apart p.table id k (size_of p.table t) offset apart at some is
-
-case_apart : (p : PoolParts) (id : ℕ) (k : VariablePool) (waiters : List ℕ) → AllLieApart p.table → AskForBytes p → 1 ≤ id → id ≤ 64 →
-    variable_at p.table id ≡ Some k → variable_waiters p.base k id ≡ waiters → ApartIf (variable_serves p id k waiters)
-unfolding ApartIf
-case_apart p id k [] apart asks least most at stand = tt
-case_apart p id k (t ∷ ts) apart asks least most at stand =
-    given_apart p id k t (place_in k (size_of p.table t)) apart at (asks id t least most (first_waits k.order p.base (variable_object id) t ts stand)) refl
-
-slot_apart : (p : PoolParts) (id : ℕ) (slot : Option VariablePool) → AllLieApart p.table → AskForBytes p → 1 ≤ id → id ≤ 64 → variable_at p.table id ≡ slot →
-    ApartIf (serve_variable_at p id slot)
-unfolding ApartIf
-slot_apart p id None apart asks least most at = tt
-slot_apart p id (Some k) apart asks least most at = case_apart p id k (variable_waiters p.base k id) apart asks least most at refl
-
-one_apart : (p q : PoolParts) (id : ℕ) → AllLieApart p.table → AskForBytes p → 1 ≤ id → id ≤ 64 → serve_variable p id ≡ Some q → AllLieApart q.table
-unfolding serve_variable
-one_apart p q id apart asks least most served =
-    apart_there (serve_variable_at p id (variable_at p.table id)) q (slot_apart p id (variable_at p.table id) apart asks least most refl) served
-
-dropped_length : {A : Type 0} → (xs : List A) → length xs ≤ 65 → length (drop 1 xs) ≤ 64
-dropped_length [] most = omega arith
-dropped_length (x ∷ xs) most = omega (arith, most)
-
--- it leaves live blocks apart, where there are at most 64 such pools
-variable_apart : (p q : PoolParts) → length p.table.variable ≤ 65 → AllLieApart p.table → AskForBytes p → serve_variable_pools p ≡ Some q → AllLieApart q.table
-unfolding serve_variable_pools
-variable_apart p q few apart asks served =
-    let from = first_from (serve_variable p) q (drop 1 p.table.variable) served in
-    let most = dropped_length p.table.variable few in
-    let greatest = from.greatest in
-    one_apart p q from.id apart asks from.least (omega (arith, most, greatest)) from.at
+-- it leaves live blocks apart, where there are at most 64 such pools and each task that waits for one has asked for some bytes
+variable_there : (p q : PoolParts) → length p.table.variable ≤ 65 → AllLieApart p.table → ((id t : ℕ) → 1 ≤ id → id ≤ 64 → waits_for p.base (variable_object id) t ≡ true → 0 < size_of p.table t) →
+    serve_variable_pools p ≡ Some q → AllLieApart q.table
+variable_there p q few apart asks served = variable_apart p q apart (λ id t least below waits. asks id t least (omega (arith, few, below)) waits) served
 
 -- ---- servings of all kinds
 
@@ -133,7 +76,7 @@ fixed_holds p l has is = record {
 variable_holds : (p : Parts) (l : PoolParts) → PoolsHold p → serve_variable_pools (pool_parts p) ≡ Some l → TableHolds l.table
 variable_holds p l has is = record {
   short = short_there l (serve_variable_pools (pool_parts p)) is (variable_served_short (pool_parts p) has.table.short);
-  apart = variable_apart (pool_parts p) l has.table.short.variable has.table.apart has.asked.asked.sizes is;
+  apart = variable_there (pool_parts p) l has.table.short.variable has.table.apart has.asked.asked.sizes is;
 }
 
 served_table : (p : Parts) → PoolsHold p → After (serve_object p)

@@ -6,9 +6,12 @@ pub mod OwedDevices
 pub mod OwedServings
 pub mod OwedEvents
 pub mod Paces
+pub mod Later
 pub mod FedTurns
 pub mod WholeTurns
 pub mod Linked
 pub mod Needed
 pub mod Drivers
 pub mod OwnEndings
+pub mod Made
+pub mod EveryRun

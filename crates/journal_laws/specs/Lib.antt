@@ -1,3 +1,4 @@
 pub mod Fed
 pub mod Owed
 pub mod Turns
+pub mod Requests

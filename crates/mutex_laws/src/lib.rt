@@ -1,4 +1,5 @@
-//! Laws of mutexes and of current priorities, which stand beside the definitions of `object_model`. No code is built on this crate.
+//! Laws of mutexes and of current priorities, which stand beside the definitions of `object_model`. No code calls this crate; its
+//! lemmas are cited by those of the whole machine, on which the proofs of the program's code stand.
 #![tactic(auto)]
 
 pub mod laws;

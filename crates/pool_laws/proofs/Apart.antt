@@ -15,7 +15,7 @@ use Rattle.kernel_model.specs.Words.Orders.{entry, taken_from}
 use Rattle.kernel_model.specs.Tasks.Base.{Base}
 use Rattle.kernel_model.specs.Tasks.Calls.{caller}
 use Rattle.kernel_model.specs.SemFlags.Calls.{object_checks, would_be_first}
-use Rattle.kernel_lemmas.proofs.Tables.{entry_each, entry_same}
+use Rattle.kernel_lemmas.proofs.Tables.{entry_each, entry_inside, entry_same}
 use Rattle.call_lemmas.proofs.Checked.{holds_at}
 use Rattle.object_model.specs.declared.pools.Block.{Block}
 use Rattle.object_model.specs.Servings.{first_serving}
@@ -80,7 +80,7 @@ variable_case : (p : PoolParts) (id : ℕ) (k : VariablePool) (waiters : List �
 unfolding ApartIf
 variable_case p id k [] apart ask least at stand = tt
 variable_case p id k (t ∷ ts) apart ask least at stand =
-    given p id k t (place_in k (size_of p.table t)) apart at (ask id t least (first_waits k.order p.base (variable_object id) t ts stand)) refl
+    given p id k t (place_in k (size_of p.table t)) apart at (ask id t least (entry_inside p.table.variable id k at) (first_waits k.order p.base (variable_object id) t ts stand)) refl
 
 variable_slot : (p : PoolParts) (id : ℕ) (slot : Option VariablePool) → AllLieApart p.table → AskForSome p → 1 ≤ id → variable_at p.table id ≡ slot → ApartIf (serve_variable_at p id slot)
 unfolding ApartIf

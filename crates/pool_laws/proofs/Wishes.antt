@@ -4,7 +4,7 @@ use Rattle.std.specs.Prelude.{slice_set, replicate}
 use Rattle.std.specs.Bool.{◌==◌}
 use Rattle.std.specs.Ordering.{int_eq}
 use Rattle.std.proofs.lemmas.Bool.Decides.{nat_tests}
-use Rattle.std.proofs.lemmas.List.{get_or-set_same, get_or-set_other}
+use Rattle.std.proofs.lemmas.List.{get_or-set_same, get_or-set_other, length-set}
 use Rattle.tk_types.specs.declared.answer.Answer.{Answer}
 use Rattle.tk_types.specs.declared.answer.Who.{Who}
 use Rattle.tk_types.specs.declared.answer.Outcome.{Outcome}
@@ -26,9 +26,9 @@ use Rattle.kernel_lemmas.proofs.Tables.{entry_other, entry_there, entry_split, e
 use Rattle.kernel_lemmas.proofs.Releases.{release_others, release_over}
 use Rattle.call_lemmas.proofs.Checked.{holds_at}
 use Rattle.call_lemmas.proofs.Serving.{waits_for_waits}
-use Rattle.object_model.specs.Pools.Tables.{FixedPool, VariablePool, Pools, PoolParts, pools_start, fixed_object, variable_object, fixed_at, variable_at, has_mpf, has_mpl, size_of}
+use Rattle.object_model.specs.Pools.Tables.{FixedPool, VariablePool, Pools, PoolParts, pools_start, fixed_object, variable_object, fixed_at, variable_at, has_mpf, has_mpl, size_of, with_variable}
 use Rattle.object_model.specs.Pools.Fixed.{free_block, fixed_waiters, fixed_serves, serve_fixed, serve_fixed_at, serve_fixed_pools}
-use Rattle.object_model.specs.Pools.Variable.{block_size, place_in, variable_waiters, block_given, variable_serves, serve_variable, serve_variable_at, serve_variable_pools}
+use Rattle.object_model.specs.Pools.Variable.{block_size, place_in, variable_waiters, with_live, block_given, variable_serves, serve_variable, serve_variable_at, serve_variable_pools}
 use Rattle.object_model.specs.Pools.Calls as Calls
 use Rattle.object_model.specs.Pools.Calls.{PoolDone, pool_done, refused_with, pool_checked, pool_call, create_fixed, delete_fixed, get_fixed, release_fixed, refer_fixed, create_variable, delete_variable, get_variable, release_variable, refer_variable}
 use Rattle.mail_laws.proofs.Waits.{of_first}
@@ -96,9 +96,14 @@ joined_cases b t of_object object u order (negsuc n) waits =
 
 -- ---- fewer that wait, with the sizes as they were
 
-fewer_ask : (p : PoolParts) (b : Base) (m : Pools) → AskForSome p → WaitsFewer p.base b → m.sizes ≡ p.table.sizes → AskForSome (record { base = b; table = m })
+fewer_ask : (p : PoolParts) (b : Base) (m : Pools) → AskForSome p → WaitsFewer p.base b → m.sizes ≡ p.table.sizes → length m.variable ≤ length p.table.variable → AskForSome (record { base = b; table = m })
 unfolding WaitsFewer
-fewer_ask p b m ask fewer same id t least waits = subst (λ (sizes : List ℕ). 0 < size_of (record m { sizes = sizes }) t) (sym same) (ask id t least (fewer (variable_object id) t waits))
+fewer_ask p b m ask fewer same slots id t least below waits =
+    subst (λ (sizes : List ℕ). 0 < size_of (record m { sizes = sizes }) t) (sym same) (ask id t least (omega (arith, below, slots)) (fewer (variable_object id) t waits))
+
+-- a slot that is written makes no table longer
+pool_slots : (m : Pools) (id : ℕ) (slot : Option VariablePool) → length (with_variable m id slot).variable ≤ length m.variable
+pool_slots m id slot = let same = length-set m.variable id slot in omega (arith, same)
 
 AskIf : Option PoolParts → Type 0
 AskIf None = Unit {0}
@@ -114,7 +119,8 @@ of_some (Some now) q ask is = let same : now ≡ q = cc is in subst AskForSome s
 given_ask : (p : PoolParts) (id : ℕ) (k : VariablePool) (t : ℕ) (place : Option ℕ) → AskForSome p → AskIf (block_given p id k t place)
 unfolding AskIf
 given_ask p id k t None ask = tt
-given_ask p id k t (Some offset) ask = fewer_ask p (release p.base t (plain (pos offset))) p.table ask (release_fewer p.base t (plain (pos offset))) refl
+given_ask p id k t (Some offset) ask =
+    fewer_ask p (release p.base t (plain (pos offset))) (with_live p.table id k (record { offset = offset; size = size_of p.table t })) ask (release_fewer p.base t (plain (pos offset))) refl (pool_slots p.table id _)
 
 variable_case : (p : PoolParts) (id : ℕ) (k : VariablePool) (waiters : List ℕ) → AskForSome p → AskIf (variable_serves p id k waiters)
 unfolding AskIf
@@ -138,7 +144,7 @@ fixed_case : (p : PoolParts) (id : ℕ) (k : FixedPool) (waiters : List ℕ) (nu
 unfolding AskIf
 fixed_case p id k [] number ask = tt
 fixed_case p id k (t ∷ ts) zero ask = tt
-fixed_case p id k (t ∷ ts) (suc before) ask = fewer_ask p (release p.base t (plain (pos (suc before)))) p.table ask (release_fewer p.base t (plain (pos (suc before)))) refl
+fixed_case p id k (t ∷ ts) (suc before) ask = fewer_ask p (release p.base t (plain (pos (suc before)))) p.table ask (release_fewer p.base t (plain (pos (suc before)))) refl (omega arith)
 
 fixed_slot : (p : PoolParts) (id : ℕ) (slot : Option FixedPool) → AskForSome p → AskIf (serve_fixed_at p id slot)
 unfolding AskIf
@@ -165,9 +171,9 @@ refused_or p None effect ask now = now refl
 checked : (p : PoolParts) (checks : List Check) (effect : PoolDone) → AskForSome p → (first_error checks ≡ None → AskForSome (left_by effect)) → AskForSome (left_by (pool_checked checks p effect))
 checked p checks effect ask now = refused_or p (first_error checks) effect ask now
 
-stays : (p : PoolParts) (m : Pools) (outcome : Outcome) → AskForSome p → m.sizes ≡ p.table.sizes → AskForSome (left_by (pool_done (record p { table = m }) outcome))
+stays : (p : PoolParts) (m : Pools) (outcome : Outcome) → AskForSome p → m.sizes ≡ p.table.sizes → length m.variable ≤ length p.table.variable → AskForSome (left_by (pool_done (record p { table = m }) outcome))
 unfolding WaitsFewer
-stays p m outcome ask same = fewer_ask p p.base m ask (λ object u waits. waits) same
+stays p m outcome ask same slots = fewer_ask p p.base m ask (λ object u waits. waits) same slots
 
 waits_if : (p : PoolParts) (base : Base) (asked : Pools) (over : Bool) → AskForSome p → AskForSome (record { base = base; table = asked }) →
     AskForSome (left_by (cond over (pool_done p (failed er.TmOut)) (pool_done (record { base = base; table = asked }) Blocked)))
@@ -180,9 +186,9 @@ id_below (negsuc n) is = omega arith
 
 -- a wait for a fixed pool is none for a variable one
 fixed_waits : (p : PoolParts) (t id : ℕ) (order : Order) (timeout : ℤ) → id ≤ 64 → AskForSome p → AskForSome (record { base = make_wait p.base t (fixed_object id) order timeout; table = p.table })
-fixed_waits p t id order timeout most ask other u least waits = elim (joined_cases p.base t (fixed_object id) (variable_object other) u order timeout waits) [
+fixed_waits p t id order timeout most ask other u least below waits = elim (joined_cases p.base t (fixed_object id) (variable_object other) u order timeout waits) [
   | inl own ↦ absurd (let same : variable_object other ≡ fixed_object id = own.1 in omega (arith, same, most, least))
-  | inr before ↦ ask other u least before
+  | inr before ↦ ask other u least below before
 ]
 
 -- the size of another task is as it was, and its own is some bytes
@@ -197,9 +203,9 @@ kept_size p t u n some inside false is before =
 -- a wait for a variable pool comes with its size
 variable_waits : (p : PoolParts) (t id n : ℕ) (order : Order) (timeout : ℤ) → 0 < n → t < length p.table.sizes → AskForSome p →
     AskForSome (record { base = make_wait p.base t (variable_object id) order timeout; table = record p.table { sizes = slice_set p.table.sizes t n } })
-variable_waits p t id n order timeout some inside ask other u least waits = elim (joined_cases p.base t (variable_object id) (variable_object other) u order timeout waits) [
+variable_waits p t id n order timeout some inside ask other u least below waits = elim (joined_cases p.base t (variable_object id) (variable_object other) u order timeout waits) [
   | inl own ↦ (let set : size_of (record p.table { sizes = slice_set p.table.sizes t n }) u ≡ n = ap (size_of (record p.table { sizes = slice_set p.table.sizes t n })) own.0 ∙ get_or-set_same p.table.sizes t n 0 inside in omega (arith, set, some))
-  | inr before ↦ kept_size p t u n some inside (u == t) refl (ask other u least before)
+  | inr before ↦ kept_size p t u n some inside (u == t) refl (ask other u least below before)
 ]
 
 block_asks : (p : PoolParts) (t id : ℕ) (timeout : ℤ) (k : FixedPool) (number : ℕ) → id ≤ 64 → AskForSome p → AskForSome (left_by (Calls.block_taken p t id timeout k number))
@@ -212,7 +218,8 @@ got_fixed p t id timeout (Some k) most ask = block_asks p t id timeout k (free_b
 
 placed_asks : (p : PoolParts) (t id n : ℕ) (timeout : ℤ) (k : VariablePool) (place : Option ℕ) → 0 < n → t < length p.table.sizes → AskForSome p → AskForSome (left_by (Calls.placed p t id n timeout k place))
 placed_asks p t id n timeout k None some inside ask = waits_if p _ _ (int_eq timeout (pos 0)) ask (variable_waits p t id n k.order timeout some inside ask)
-placed_asks p t id n timeout k (Some offset) some inside ask = ask
+placed_asks p t id n timeout k (Some offset) some inside ask =
+    stays p (with_live p.table id k (record { offset = offset; size = n })) (done (pos offset)) ask refl (pool_slots p.table id _)
 
 got_variable : (p : PoolParts) (t id n : ℕ) (timeout : ℤ) (slot : Option VariablePool) → 0 < n → t < length p.table.sizes → AskForSome p → AskForSome (left_by (Calls.got_from_variable p t id n timeout slot))
 got_variable p t id n timeout None some inside ask = ask
@@ -221,6 +228,14 @@ got_variable p t id n timeout (Some k) some inside ask = placed_asks p t id n ti
 fixed_back : (m : Pools) (id number : ℕ) (slot : Option FixedPool) → (Calls.block_back m id number slot).sizes ≡ m.sizes
 fixed_back m id number None = refl
 fixed_back m id number (Some k) = refl
+
+fixed_slots : (m : Pools) (id number : ℕ) (slot : Option FixedPool) → length (Calls.block_back m id number slot).variable ≤ length m.variable
+fixed_slots m id number None = omega arith
+fixed_slots m id number (Some k) = omega arith
+
+freed_slots : (m : Pools) (id offset : ℕ) (slot : Option VariablePool) → length (Calls.block_freed m id offset slot).variable ≤ length m.variable
+freed_slots m id offset None = omega arith
+freed_slots m id offset (Some k) = pool_slots m id _
 
 freed_same : (m : Pools) (id offset : ℕ) (slot : Option VariablePool) → (Calls.block_freed m id offset slot).sizes ≡ m.sizes
 freed_same m id offset None = refl
@@ -238,17 +253,20 @@ variable_gone b id (Some k) object u waits = ends_fewer (length (queue k.order b
 
 pub call_asks : (p : PoolParts) (who : Who) (c : PoolCall) → caller who < length p.table.sizes → AskForSome p → AskForSome (left_by (pool_call p who c))
 unfolding pool_call create_fixed delete_fixed get_fixed release_fixed refer_fixed create_variable delete_variable get_variable release_variable refer_variable
-call_asks p who (call.CreMpf attributes count size) inside ask = checked p (Calls.create_fixed_checks p attributes count size) _ ask (λ none. fewer_ask p _ p.table ask (taken_fewer p.base _) refl)
-call_asks p who (call.DelMpf id) inside ask = checked p (object_checks id (has_mpf p.table (natural id)) []) _ ask (λ none. fewer_ask p _ p.table ask (fixed_gone p.base (natural id) (fixed_at p.table (natural id))) refl)
+call_asks p who (call.CreMpf attributes count size) inside ask = checked p (Calls.create_fixed_checks p attributes count size) _ ask (λ none. fewer_ask p _ p.table ask (taken_fewer p.base _) refl (omega arith))
+call_asks p who (call.DelMpf id) inside ask = checked p (object_checks id (has_mpf p.table (natural id)) []) _ ask (λ none. fewer_ask p _ p.table ask (fixed_gone p.base (natural id) (fixed_at p.table (natural id))) refl (omega arith))
 call_asks p who (call.GetMpf id timeout) inside ask = checked p (Calls.get_fixed_checks p who id timeout) _ ask
     (λ none. got_fixed p (caller who) (natural id) timeout (fixed_at p.table (natural id)) (id_below id (holds_at 0 (Calls.get_fixed_checks p who id timeout) none)) ask)
-call_asks p who (call.RelMpf id block) inside ask = checked p (Calls.release_fixed_checks p id block) _ ask (λ none. stays p (Calls.block_back p.table (natural id) (natural block) (fixed_at p.table (natural id))) (done (pos 0)) ask (fixed_back p.table (natural id) (natural block) (fixed_at p.table (natural id))))
+call_asks p who (call.RelMpf id block) inside ask = checked p (Calls.release_fixed_checks p id block) _ ask (λ none. stays p (Calls.block_back p.table (natural id) (natural block) (fixed_at p.table (natural id))) (done (pos 0)) ask (fixed_back p.table (natural id) (natural block) (fixed_at p.table (natural id))) (fixed_slots p.table (natural id) (natural block) (fixed_at p.table (natural id))))
 call_asks p who (call.RefMpf id) inside ask = checked p (object_checks id (has_mpf p.table (natural id)) []) _ ask (λ none. ask)
-call_asks p who (call.CreMpl attributes size) inside ask = checked p (Calls.create_variable_checks p attributes size) _ ask (λ none. fewer_ask p _ p.table ask (taken_fewer p.base _) refl)
-call_asks p who (call.DelMpl id) inside ask = checked p (object_checks id (has_mpl p.table (natural id)) []) _ ask (λ none. fewer_ask p _ p.table ask (variable_gone p.base (natural id) (variable_at p.table (natural id))) refl)
+call_asks p who (call.CreMpl attributes size) inside ask = checked p (Calls.create_variable_checks p attributes size) _ ask
+    (λ none. fewer_ask p _ (with_variable p.table (Calls.free_variable p.table) (Some (Calls.new_variable attributes (block_size (natural size))))) ask (taken_fewer p.base _) refl (pool_slots p.table _ _))
+call_asks p who (call.DelMpl id) inside ask = checked p (object_checks id (has_mpl p.table (natural id)) []) _ ask
+    (λ none. fewer_ask p _ (with_variable p.table (natural id) None) ask (variable_gone p.base (natural id) (variable_at p.table (natural id))) refl (pool_slots p.table _ _))
 call_asks p who (call.GetMpl id size timeout) inside ask = checked p (Calls.get_variable_checks p who id size timeout) _ ask
     (λ none. got_variable p (caller who) (natural id) (block_size (natural size)) timeout (variable_at p.table (natural id)) (some_bytes size (holds_at 1 (Calls.get_variable_checks p who id size timeout) none)) inside ask)
-call_asks p who (call.RelMpl id offset) inside ask = checked p (Calls.release_variable_checks p id offset) _ ask (λ none. stays p (Calls.block_freed p.table (natural id) (natural offset) (variable_at p.table (natural id))) (done (pos 0)) ask (freed_same p.table (natural id) (natural offset) (variable_at p.table (natural id))))
+call_asks p who (call.RelMpl id offset) inside ask = checked p (Calls.release_variable_checks p id offset) _ ask (λ none. stays p (Calls.block_freed p.table (natural id) (natural offset) (variable_at p.table (natural id))) (done (pos 0)) ask (freed_same p.table (natural id) (natural offset) (variable_at p.table (natural id)))
+    (freed_slots p.table (natural id) (natural offset) (variable_at p.table (natural id))))
 call_asks p who (call.RefMpl id) inside ask = checked p (object_checks id (has_mpl p.table (natural id)) []) _ ask (λ none. ask)
 
 -- ---- the start
@@ -264,7 +282,7 @@ first_task priority = record { phase = Ready; queue = Fifo; base = priority; ini
 -- at the start nobody waits
 pub start_asks : (priority : ℕ) → AskForSome (record { base = base_start priority; table = pools_start })
 unfolding first_task
-start_asks priority id t least waits = absurd (
+start_asks priority id t least below waits = absurd (
     entry_each (λ j (o : Option Task). waiting_in (variable_object id) o ≡ true → ⊥) (replicate 256 None) 1 (Some (first_task priority))
     (entry_same (λ (o : Option Task). waiting_in (variable_object id) o ≡ true → ⊥) (replicate 256 None) 1 (Some (first_task priority)) (λ now. absurd (cc now)) (λ now. absurd (cc now)))
     (λ j apart. none_there (variable_object id) 256 j) t waits)

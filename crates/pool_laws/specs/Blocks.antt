@@ -1,5 +1,5 @@
 -- The live blocks of a variable pool, in other words.
-use Rattle.std.specs.Prelude.{ℕ, ◌≡◌, ◌+◌, ◌≤◌, ◌<◌, ◌⊎◌, true, List, [], ◌∷◌, Option, Some, None}
+use Rattle.std.specs.Prelude.{ℕ, ◌≡◌, ◌+◌, ◌≤◌, ◌<◌, ◌⊎◌, length, true, List, [], ◌∷◌, Option, Some, None}
 use Rattle.kernel_model.specs.Tasks.Base.{waits_for}
 use Rattle.object_model.specs.declared.pools.Block.{Block}
 use Rattle.object_model.specs.Pools.Tables.{VariablePool, Pools, PoolParts, variable_object, variable_at, size_of}
@@ -32,6 +32,6 @@ LieApartIn (Some k) = LieApart k
 abbrev pub AllLieApart : Pools → Type 0
 AllLieApart m = (id : ℕ) → LieApartIn (variable_at m id)
 
--- each task that waits for a variable pool asks for some bytes
+-- each task that waits for a variable pool asks for some bytes. The pools' IDs are those from 1 on of which the table has slots
 abbrev pub AskForSome : PoolParts → Type 0
-AskForSome p = (id t : ℕ) → 1 ≤ id → waits_for p.base (variable_object id) t ≡ true → 0 < size_of p.table t
+AskForSome p = (id t : ℕ) → 1 ≤ id → id < length p.table.variable → waits_for p.base (variable_object id) t ≡ true → 0 < size_of p.table t

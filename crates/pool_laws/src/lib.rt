@@ -1,4 +1,5 @@
-//! Laws of memory pools, which stand beside the definitions of `object_model`. Nothing is built on this crate.
+//! Laws of memory pools, which stand beside the definitions of `object_model`. Other laws cite its
+//! lemmas; no code is built on it.
 #![tactic(auto)]
 
 pub mod laws;

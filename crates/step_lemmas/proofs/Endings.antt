@@ -32,7 +32,7 @@ use Rattle.machine_model.specs.Events.Follow.{settled}
 use Rattle.machine_model.specs.Events.Settle.{freed_within, settle, with_freed}
 use Rattle.ask_lemmas.proofs.ReachedAsked.{HasAsked, asks_are_kept}
 use Rattle.ask_lemmas.proofs.WholeWalk.{kept_family, kept_settled}
-use Rattle.step_lemmas.specs.Built.{HasNone}
+use Rattle.step_lemmas.specs.Known.{HasDevices}
 use Rattle.step_lemmas.specs.Sound.{IsSound, IsWhole}
 use Rattle.step_lemmas.specs.Freeing.{freed_by}
 use Rattle.step_lemmas.proofs.Sound.{asked_of, sound_of}
@@ -113,7 +113,7 @@ ended_small st now t call outcome small is = subst (λ (done : CallDone). ended_
 -- ---- what waits, through calls
 
 -- each task that waits stands in its order after a call of any family, and has asked for something that fits
-pub call_sound : (st now : State) (t : ℕ) (call : Call) (outcome : Outcome) → HavePlaces st.base → IsWhole st → HasNone st → IsSound st.base st.objects → family_call st t call ≡ record { state = now; outcome = outcome } → IsSound now.base now.objects
+pub call_sound : (st now : State) (t : ℕ) (call : Call) (outcome : Outcome) → HavePlaces st.base → IsWhole st → HasDevices st → IsSound st.base st.objects → family_call st t call ≡ record { state = now; outcome = outcome } → IsSound now.base now.objects
 call_sound st now t call outcome places whole none all is =
     subst (λ (done : CallDone). IsSound done.state.base done.state.objects) is (sound_of _ (kept_family HasAsked asks_are_kept st t call (asked_of st places whole none all)))
 
@@ -134,7 +134,7 @@ told_lines mode n st now t call outcome name hooks before after set is named wri
 
 -- ---- settling
 
-pub settled_sound : (mode : Mode) (st now : State) → HavePlaces st.base → IsWhole st → HasNone st → IsSound st.base st.objects → now ≡ settled mode st → IsSound now.base now.objects
+pub settled_sound : (mode : Mode) (st now : State) → HavePlaces st.base → IsWhole st → HasDevices st → IsSound st.base st.objects → now ≡ settled mode st → IsSound now.base now.objects
 settled_sound mode st now places whole none all is =
     subst (λ (s : State). IsSound s.base s.objects) (sym is) (sound_of _ (kept_settled HasAsked asks_are_kept mode (parts_of st) (asked_of st places whole none all)))
 
@@ -144,7 +144,7 @@ freed_asked : (p : Parts) (t : ℕ) (next : Option Mutexes) → free_last p.base
 freed_asked p t None is has = has
 freed_asked p t (Some m) is has = asks_are_kept.freed p t m is has
 
-pub freed_sound : (st now : State) (t : ℕ) → HavePlaces st.base → IsWhole st → HasNone st → IsSound st.base st.objects → now ≡ freed_by t st → IsSound now.base now.objects
+pub freed_sound : (st now : State) (t : ℕ) → HavePlaces st.base → IsWhole st → HasDevices st → IsSound st.base st.objects → now ≡ freed_by t st → IsSound now.base now.objects
 freed_sound st now t places whole none all is =
     subst (λ (s : State). IsSound s.base s.objects) (sym is) (sound_of _ (freed_asked (parts_of st) t (free_last st.base st.objects.mutexes t) refl (asked_of st places whole none all)))
 

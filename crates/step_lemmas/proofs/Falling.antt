@@ -17,7 +17,7 @@ use Rattle.ask_lemmas.proofs.WholeWalk.{kept_settled}
 use Rattle.count_lemmas.specs.Counts.{Makes}
 use Rattle.count_lemmas.proofs.Makes.{fallen_makes, makes_then}
 use Rattle.count_lemmas.proofs.Ticks.{due_none, due_turn}
-use Rattle.step_lemmas.specs.Built.{HasNone}
+use Rattle.step_lemmas.specs.Known.{HasDevices}
 use Rattle.step_lemmas.specs.Sound.{IsSound, IsWhole}
 use Rattle.step_lemmas.specs.Falling.{fell_due}
 use Rattle.step_lemmas.proofs.Sound.{asked_of, sound_of}
@@ -39,13 +39,13 @@ fallen_as mode old now base what taken moved = moved ∙ ap {A = Base} (λ b. fe
 taken_asked : (p : Parts) (what : DueKind) → HasAsked p → HasAsked (record p { base = again (take_due p.base) p.objects.clocks what })
 taken_asked p what has = asks_are_kept.again (record p { base = take_due p.base }) what (asks_are_kept.taken p has)
 
-pub taken_sound : (old st : State) (base : Base) (what : DueKind) → old ≡ st → HavePlaces st.base → IsWhole st → HasNone st → IsSound st.base st.objects → base ≡ again (take_due old.base) old.objects.clocks what → IsSound base old.objects
+pub taken_sound : (old st : State) (base : Base) (what : DueKind) → old ≡ st → HavePlaces st.base → IsWhole st → HasDevices st → IsSound st.base st.objects → base ≡ again (take_due old.base) old.objects.clocks what → IsSound base old.objects
 taken_sound old st base what is places whole none all taken =
     let has : HasAsked (parts_of old) = subst (λ (s : State). HasAsked (parts_of s)) (sym is) (asked_of st places whole none all) in
     subst (λ (b : Base). IsSound b old.objects) (sym taken) (sound_of _ (taken_asked (parts_of old) what has))
 
 -- and when the end of a wait was followed
-pub released_sound : (view st : State) (base : Base) (t : ℕ) (answer : Answer) → view ≡ st → HavePlaces st.base → IsWhole st → HasNone st → IsSound st.base st.objects → base ≡ release view.base t answer → IsSound base view.objects
+pub released_sound : (view st : State) (base : Base) (t : ℕ) (answer : Answer) → view ≡ st → HavePlaces st.base → IsWhole st → HasDevices st → IsSound st.base st.objects → base ≡ release view.base t answer → IsSound base view.objects
 released_sound view st base t answer is places whole none all released =
     let has : HasAsked (parts_of view) = subst (λ (s : State). HasAsked (parts_of s)) (sym is) (asked_of st places whole none all) in
     subst (λ (b : Base). IsSound b view.objects) (sym released) (sound_of _ (asks_are_kept.released (parts_of view) t answer has))
@@ -63,7 +63,7 @@ fallen_asked mode st (dues.Alarm id) has = taken_asked (parts_of st) (dues.Alarm
 -- one turn over the events that are due: what is left comes to what all comes to, each task that waits stands in its order, and
 -- so many events more were made at most
 pub due_more : (most done : ℕ) (mode : Mode) (first old st now : State) (base : Base) (what : DueKind) (come : State) →
-    old ≡ st → done < most → HavePlaces st.base → IsWhole st → HasNone st → Some what ≡ due_event old.base.time old.base.events → base ≡ again (take_due old.base) old.objects.clocks what →
+    old ≡ st → done < most → HavePlaces st.base → IsWhole st → HasDevices st → Some what ≡ due_event old.base.time old.base.events → base ≡ again (take_due old.base) old.objects.clocks what →
     now ≡ fell_due mode (record old { base = base }) what → due_done (most - done) mode st ≡ come → IsSound st.base st.objects → Makes done 0 0 first.base st.base →
     record { all : due_done (most - (done + 1)) mode now ≡ come; sound : IsSound now.base now.objects; makes : Makes (done + 1) 0 0 first.base now.base }
 due_more most done mode first old st now base what come is below places whole none at taken moved all sound makes =

@@ -8,3 +8,6 @@ pub mod Still
 pub mod Pending
 pub mod Starting
 pub mod Going
+pub mod NoDevices
+pub mod Unstarved
+pub mod Arriving

@@ -21,7 +21,7 @@ use Rattle.object_model.specs.Mails.Calls.{has_place}
 use Rattle.object_model.specs.Pools.Tables.{FixedPool, VariablePool, fixed_at, fixed_object, size_of, variable_at, variable_object}
 use Rattle.machine_model.specs.States.Objects.{Objects}
 use Rattle.machine_model.specs.States.Waits.{IsOrderly, order_for}
-use Rattle.order_lemmas.proofs.Ranges.{box_named, fixed_named, flag_named, mutex_named, receivers_named, sem_named, senders_named, variable_named}
+use Rattle.order_lemmas.proofs.Ranges.{box_named, device_is, fixed_named, flag_named, mutex_named, receivers_named, sem_named, senders_named, variable_named}
 use Rattle.step_lemmas.specs.Sound.{IsSound}
 
 phase_order : (orders : ℕ → Option Order) (object : ℕ) (queued by : Order) (phase : Phase) → FitsPhase orders queued phase → waits_in object phase ≡ true → orders object ≡ Some by → queued ≡ by
@@ -46,8 +46,8 @@ sleepers_order b o sound = waiters_order b o 0 Fifo sound.orderly refl
 pub delayed_order : (b : Base) (o : Objects) → IsSound b o → AreOfOrder Fifo b 1
 delayed_order b o sound = waiters_order b o 1 Fifo sound.orderly refl
 
-pub suspended_order : (b : Base) (o : Objects) → IsSound b o → AreOfOrder Fifo b 648
-suspended_order b o sound = waiters_order b o 648 Fifo sound.orderly refl
+pub device_waiters : (b : Base) (o : Objects) (object : ℕ) → IsSound b o → 576 ≤ object → object ≤ 648 → AreOfOrder Fifo b object
+device_waiters b o object sound least most = waiters_order b o object Fifo sound.orderly (device_is o object least most)
 
 pub sem_waiters : (b : Base) (o : Objects) (id : ℕ) (k : Semaphore) → IsSound b o → 1 ≤ id → id ≤ 64 → sem_at o.sem_flags id ≡ Some k → AreOfOrder k.order b (sem_object id)
 sem_waiters b o id k sound one last at = waiters_order b o (sem_object id) k.order sound.orderly (sem_named o id one last ∙ ap {A = Option Semaphore} (option_map (λ s. s.order)) at)

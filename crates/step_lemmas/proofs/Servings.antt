@@ -1,37 +1,31 @@
--- Settling, one serving after another, where there is no device.
+-- Settling, one serving after another.
 use Rattle.std.proofs.Common.{◌≡◌, ℕ, zero, suc, ◌+◌, ◌-◌, ◌<◌, ◌≤◌, Bool, true, false, List, [], ◌∷◌, Option, Some, None, refl, sym, ◌∙◌, ap, subst, arith}
-use Rattle.std.specs.Prelude.{slice_get, unwrap_or, pos}
+use Rattle.std.specs.Prelude.{unwrap_or}
 use Rattle.std.specs.Option.{is_some, option_map}
-use Rattle.tk_types.specs.declared.answer.Answer.{Answer}
 use Rattle.tk_types.specs.declared.run.Mode.{Mode}
 use Rattle.tk_types.specs.declared.run.Mode.TheVariants as modes
-use Rattle.tk_types.specs.declared.task.Order.TheVariants.{Fifo}
-use Rattle.kernel_model.specs.Tasks.Base.{Base, queue, release}
+use Rattle.kernel_model.specs.Tasks.Base.{Base}
 use Rattle.kernel_model.specs.Tasks.Waits.{HavePlaces}
-use Rattle.kernel_model.specs.Words.Checks.{plain}
 use Rattle.kernel_model.specs.SemFlags.Tables.{SemFlagParts, SemFlags, serve_sem_flag}
 use Rattle.object_model.specs.Mutexes.Tables.{MutexParts, Mutexes, serve_mutexes}
 use Rattle.object_model.specs.Mails.Tables.{MailParts, Mails}
 use Rattle.object_model.specs.Mails.Boxes.{serve_mailboxes}
 use Rattle.object_model.specs.Mails.Buffers.{serve_buffers}
-use Rattle.object_model.specs.Servings.{first_serving as first_object}
 use Rattle.object_model.specs.Pools.Tables.{PoolParts, Pools}
 use Rattle.object_model.specs.Pools.Fixed.{serve_fixed_pools}
 use Rattle.object_model.specs.Pools.Variable.{serve_variable_pools}
 use Rattle.device_model.specs.Devices.Tables.{Devices}
 use Rattle.device_model.specs.Devices.Endings.{DevParts}
-use Rattle.device_model.specs.Devices.Servings.{serve_acceptances, serve_closes, serve_endings, serve_suspension, suspended_unless, suspension_by}
-use Rattle.device_model.specs.Devices.Handing.{any_given}
-use Rattle.device_model.specs.Devices.Suspension.{events_sent}
-use Rattle.machine_model.specs.States.Objects.{Parts, dev_parts, first_serving, serve_object, with_devices, with_mails, with_mutexes, with_pools, with_sem_flags}
+use Rattle.device_model.specs.Devices.Handing.{hand_over}
+use Rattle.machine_model.specs.States.Objects.{Parts, first_serving, serve_object, with_devices, with_mails, with_mutexes, with_pools, with_sem_flags}
 use Rattle.machine_model.specs.States.State.{State, parts_of, with_parts}
 use Rattle.machine_model.specs.Events.Settle.{handed, refreshed, served_within}
-use Rattle.machine_lemmas.proofs.HandedTwice.{hand_over_none}
 use Rattle.machine_lemmas.proofs.Settling.{next_served, refreshed_keeps}
 use Rattle.ask_lemmas.proofs.ReachedAsked.{HasAsked, asks_are_kept}
-use Rattle.step_lemmas.specs.Built.{HasNone, no_devices}
+use Rattle.step_lemmas.specs.Known.{HasDevices}
 use Rattle.step_lemmas.specs.Sound.{IsSound, IsWhole}
-use Rattle.step_lemmas.specs.Kinds.{Serves, behind_boxes, behind_buffers, buffers, fixed_pools, mailboxes, mutexes, of_devices, sem_flags, served_by, suspension, variable_pools}
+use Rattle.step_lemmas.specs.Handed.{handed_devices}
+use Rattle.step_lemmas.specs.Kinds.{Serves, acceptances, at_devices, behind_boxes, behind_buffers, buffers, closes, endings, fixed_pools, mailboxes, mutexes, of_devices, sem_flags, served_by, suspension, variable_pools}
 use Rattle.step_lemmas.proofs.Sound.{asked_of, sound_of}
 
 -- ---- a family's serving is one of the state
@@ -105,51 +99,17 @@ variable_serve view st b m some same served left =
     let before : PoolParts = pools_beside view.base view.objects.pools in
     family_serves variable_pools view st (with_pools (parts_of view)) (serve_variable_pools before) before (pools_beside b m) some refl refl same served left
 
--- ---- kinds of which there is no object
+abbrev devices_beside : Base → Devices → Mails → List ℕ → DevParts
+devices_beside b dv m memory = record { base = b; table = dv; mails = m; memory = memory }
 
--- a suspension has nothing to wait for, and sends nothing
-sent_none : (p : Parts) (t : ℕ) (dv : Devices) → dv ≡ no_devices →
-    option_map (with_devices p) (suspended_unless (any_given dv) (record (dev_parts p) { table = dv }) t) ≡ Some (record p { base = release p.base t (plain (pos 0)); objects = record p.objects { devices = no_devices } })
-unfolding events_sent
-sent_none p t dv none = rw none refl
-
-served_at_once : (st : State) (waiting : List ℕ) → HasNone st → option_map (with_devices (parts_of st)) (suspension_by (dev_parts (parts_of st)) waiting) ≡
-    (elim waiting as (λ _. Option Parts) [ [] ↦ None | t ∷ ts ↦ Some (record (parts_of st) { base = release st.base t (plain (pos 0)) }) ])
-served_at_once st [] none = refl
-served_at_once st (t ∷ ts) none =
-    sent_none (parts_of st) t st.objects.devices none.devices
-    ∙ ap {A = Devices} (λ dv. Some (record { base = release st.base t (plain (pos 0)); objects = record st.objects { devices = dv }; memory = st.memory })) (sym none.devices)
-
--- nobody waits for a suspension
-pub none_suspended : (st : State) → HasNone st → slice_get (queue Fifo st.base 648) 0 ≡ None → suspension (parts_of st) ≡ None
-unfolding serve_suspension
-none_suspended st none at = served_at_once st (queue Fifo st.base 648) none ∙ nobody (queue Fifo st.base 648) at
-  where
-    nobody : (waiting : List ℕ) → slice_get waiting 0 ≡ None → (elim waiting as (λ _. Option Parts) [ [] ↦ None | t ∷ ts ↦ Some (record (parts_of st) { base = release st.base t (plain (pos 0)) }) ]) ≡ None
-    nobody [] at = refl
-    nobody (t ∷ ts) at = absurd (cc at)
-
--- and the first that does is served
-pub one_suspended : (st : State) (t : ℕ) → HasNone st → slice_get (queue Fifo st.base 648) 0 ≡ Some t → suspension (parts_of st) ≡ Some (record (parts_of st) { base = release st.base t (plain (pos 0)) })
-unfolding serve_suspension
-one_suspended st t none at = served_at_once st (queue Fifo st.base 648) none ∙ first (queue Fifo st.base 648) at
-  where
-    first : (waiting : List ℕ) → slice_get waiting 0 ≡ Some t → (elim waiting as (λ _. Option Parts) [ [] ↦ None | u ∷ us ↦ Some (record (parts_of st) { base = release st.base u (plain (pos 0)) }) ]) ≡ Some (record (parts_of st) { base = release st.base t (plain (pos 0)) })
-    first [] at = absurd (cc at)
-    first (u ∷ us) at = let same : u ≡ t = cc at in ap {A = ℕ} (λ v. Some (record (parts_of st) { base = release st.base v (plain (pos 0)) })) same
-
--- no other kind of waits at devices can serve
-pub none_accepted : (p : Parts) → p.objects.devices ≡ no_devices → serve_acceptances (dev_parts p) ≡ None
-unfolding serve_acceptances first_object
-none_accepted p none = rw none refl
-
-pub none_ended : (p : Parts) → p.objects.devices ≡ no_devices → serve_endings (dev_parts p) ≡ None
-unfolding serve_endings first_object
-none_ended p none = rw none refl
-
-pub none_closed : (p : Parts) → p.objects.devices ≡ no_devices → serve_closes (dev_parts p) ≡ None
-unfolding serve_closes first_object
-none_closed p none = rw none refl
+-- the same of a kind of waits at devices
+pub devices_serve : (serve : DevParts → Option DevParts) (view st : State) (b : Base) (dv : Devices) (m : Mails) (memory : List ℕ) (some : Bool) → view ≡ st →
+    some ≡ is_some (serve (devices_beside view.base view.objects.devices view.objects.mails view.memory)) →
+    devices_beside b dv m memory ≡ unwrap_or (serve (devices_beside view.base view.objects.devices view.objects.mails view.memory)) (devices_beside view.base view.objects.devices view.objects.mails view.memory) →
+    Serves (of_devices serve) st (record view { base = b; objects = record view.objects { mails = m; devices = dv }; memory = memory }) some
+devices_serve serve view st b dv m memory some same served left =
+    let before : DevParts = devices_beside view.base view.objects.devices view.objects.mails view.memory in
+    family_serves (of_devices serve) view st (with_devices (parts_of view)) (serve before) before (devices_beside b dv m memory) some refl refl same served left
 
 -- ---- the kinds one after another
 
@@ -189,15 +149,6 @@ serves_later kind later old mid now none some it not rest =
     let here : Serves (first_serving later) old now some = subst (λ (st : State). Serves (first_serving later) st now some) (unchanged kind old mid first) rest in
     record { served = here.served ∙ sym (ap is_some same); left = here.left ∙ sym (ap (λ found. with_parts old (unwrap_or found (parts_of old))) same) }
 
--- the kinds of which there is no object
-
-device_none : (serve : DevParts → Option DevParts) (p : Parts) → serve (dev_parts p) ≡ None → of_devices serve p ≡ None
-device_none serve p none = ap (option_map (with_devices p)) none
-
--- a kind that can serve nobody is passed
-passes : (kind : Parts → Option Parts) (later : List (Parts → Option Parts)) (p : Parts) → kind p ≡ None → first_serving (kind ∷ later) p ≡ first_serving later p
-passes kind later p none = first_later kind later p None none refl
-
 only_last : (found : Option Parts) → (elim found as (λ _. Option Parts) [ Some served ↦ Some served | None ↦ None ]) ≡ found
 only_last None = refl
 only_last (Some q) = refl
@@ -206,31 +157,39 @@ last_kind : (kind : Parts → Option Parts) (p : Parts) → first_serving (kind 
 unfolding first_serving
 last_kind kind p = only_last (kind p)
 
--- behind pools only the suspension can serve
-abbrev behind_pools : List (Parts → Option Parts)
-behind_pools = of_devices serve_acceptances ∷ of_devices serve_endings ∷ of_devices serve_closes ∷ suspension ∷ []
-
-last_found : (p : Parts) → p.objects.devices ≡ no_devices → first_serving behind_pools p ≡ suspension p
-last_found p devices =
-    passes (of_devices serve_acceptances) _ p (device_none serve_acceptances p (none_accepted p devices))
-    ∙ passes (of_devices serve_endings) _ p (device_none serve_endings p (none_ended p devices))
-    ∙ passes (of_devices serve_closes) _ p (device_none serve_closes p (none_closed p devices))
-    ∙ last_kind suspension p
-
 serves_as : (kind other : Parts → Option Parts) (old now : State) (some : Bool) → other (parts_of old) ≡ kind (parts_of old) → Serves kind old now some → Serves other old now some
 serves_as kind other old now some same it = record { served = it.served ∙ sym (ap is_some same); left = it.left ∙ sym (ap (λ found. with_parts old (unwrap_or found (parts_of old))) same) }
 
--- a fixed pool serves, or else a variable one, or else the suspension, in the form of the code
+-- an acceptance is served, or else an ending, or else a close, or else the suspension, in the form of the code
+pub acceptance_first : (old now : State) (some : Bool) → Serves acceptances old now some → some ≡ true → Serves (first_serving at_devices) old now true
+acceptance_first old now some it one = serves_here acceptances _ old now some it one
+
+pub ending_then : (old mid now : State) (none some : Bool) → Serves acceptances old mid none → none ≡ false → Serves endings mid now some → some ≡ true → Serves (first_serving at_devices) old now true
+ending_then old mid now none some first not it one =
+    serves_later acceptances _ old mid now none true first not (serves_here endings (closes ∷ suspension ∷ []) mid now some it one)
+
+pub close_then : (old mid next now : State) (none nor some : Bool) → Serves acceptances old mid none → none ≡ false → Serves endings mid next nor → nor ≡ false → Serves closes next now some → some ≡ true → Serves (first_serving at_devices) old now true
+close_then old mid next now none nor some first not second neither it one =
+    serves_later acceptances _ old mid now none true first not
+    (serves_later endings (closes ∷ suspension ∷ []) mid next now nor true second neither (serves_here closes (suspension ∷ []) next now some it one))
+
+pub suspension_last : (old mid next last now : State) (none nor neither_one some : Bool) → Serves acceptances old mid none → none ≡ false → Serves endings mid next nor → nor ≡ false → Serves closes next last neither_one → neither_one ≡ false →
+    Serves suspension last now some → Serves (first_serving at_devices) old now some
+suspension_last old mid next last now none nor neither_one some first not second neither third never it =
+    serves_later acceptances _ old mid now none some first not
+    (serves_later endings (closes ∷ suspension ∷ []) mid next now nor some second neither
+    (serves_later closes (suspension ∷ []) next last now neither_one some third never (serves_as suspension (first_serving (suspension ∷ [])) last now some (last_kind suspension (parts_of last)) it)))
+
+-- a fixed pool serves, or else a variable one, or else a kind of waits at devices
 pub fixed_first : (old now : State) (some : Bool) → Serves fixed_pools old now some → some ≡ true → Serves (first_serving behind_buffers) old now true
 fixed_first old now some it one = serves_here fixed_pools _ old now some it one
 
 pub variable_then : (old mid now : State) (none some : Bool) → Serves fixed_pools old mid none → none ≡ false → Serves variable_pools mid now some → some ≡ true → Serves (first_serving behind_buffers) old now true
-variable_then old mid now none some first not it one = serves_later fixed_pools _ old mid now none true first not (serves_here variable_pools behind_pools mid now some it one)
+variable_then old mid now none some first not it one = serves_later fixed_pools _ old mid now none true first not (serves_here variable_pools at_devices mid now some it one)
 
-pub suspension_last : (old mid next now : State) (none nor some : Bool) → HasNone next → Serves fixed_pools old mid none → none ≡ false → Serves variable_pools mid next nor → nor ≡ false → Serves suspension next now some → Serves (first_serving behind_buffers) old now some
-suspension_last old mid next now none nor some devices first not second neither it =
-    serves_later fixed_pools _ old mid now none some first not
-    (serves_later variable_pools behind_pools mid next now nor some second neither (serves_as suspension (first_serving behind_pools) next now some (last_found (parts_of next) devices.devices) it))
+pub device_last : (old mid next now : State) (none nor some : Bool) → Serves fixed_pools old mid none → none ≡ false → Serves variable_pools mid next nor → nor ≡ false → Serves (first_serving at_devices) next now some → Serves (first_serving behind_buffers) old now some
+device_last old mid next now none nor some first not second neither it =
+    serves_later fixed_pools _ old mid now none some first not (serves_later variable_pools at_devices mid next now nor some second neither it)
 
 -- a mutex serves, or else a message buffer, or else what is behind them
 pub mutex_first : (old now : State) (some : Bool) → Serves mutexes old now some → some ≡ true → Serves (first_serving behind_boxes) old now true
@@ -258,25 +217,6 @@ pub mutex_last : (old mid next now : State) (none nor some : Bool) → Serves se
 mutex_last old mid next now none nor some first not second neither it =
     of_all old now some (serves_later sem_flags _ old mid now none some first not (serves_later mailboxes behind_boxes mid next now nor some second neither it))
 
--- nobody waits for a suspension, in the form of the code
-pub none_waits : (view st : State) (found : Option ℕ) → view ≡ st → HasNone st → found ≡ slice_get (queue Fifo view.base 648) 0 → found ≡ None → Serves suspension st st false
-none_waits view st found same none at empty =
-    let nobody : suspension (parts_of st) ≡ None = none_suspended st none (ap (λ (s : State). slice_get (queue Fifo s.base 648) 0) (sym same) ∙ sym at ∙ empty) in
-    record { served = sym (ap is_some nobody); left = sym (ap (λ (p : Option Parts). with_parts st (unwrap_or p (parts_of st))) nobody) }
-
--- the first that does is served
-pub one_waits : (view st : State) (found : Option ℕ) (t : ℕ) (base : Base) (answer : Answer) → view ≡ st → HasNone st → found ≡ slice_get (queue Fifo view.base 648) 0 → found ≡ Some t → base ≡ release view.base t answer → answer ≡ plain (pos 0) →
-    Serves suspension st (record view { base = base }) true
-one_waits view st found t base answer same none at one released told =
-    let first : suspension (parts_of st) ≡ Some (record (parts_of st) { base = release st.base t (plain (pos 0)) }) = one_suspended st t none (ap (λ (s : State). slice_get (queue Fifo s.base 648) 0) (sym same) ∙ sym at ∙ one) in
-    record {
-      served = sym (ap is_some first);
-      left =
-          ap {A = Base} (λ b. record view { base = b }) (released ∙ ap (release view.base t) told)
-          ∙ ap (λ (s : State). record s { base = release s.base t (plain (pos 0)) }) same
-          ∙ sym (ap (λ (p : Option Parts). with_parts st (unwrap_or p (parts_of st))) first);
-    }
-
 -- ---- the order of all queues through servings
 
 asked_of_next : (p : Parts) (next : Option Parts) → serve_object p ≡ next → HasAsked p → HasAsked (unwrap_or next p)
@@ -284,12 +224,12 @@ asked_of_next p None is has = has
 asked_of_next p (Some q) is has = asks_are_kept.served p q (has.orders.places.few) is has
 
 -- each task that waits still stands in its order
-pub served_sound : (st now : State) → HavePlaces st.base → IsWhole st → HasNone st → IsSound st.base st.objects → now ≡ served_by serve_object st → IsSound now.base now.objects
+pub served_sound : (st now : State) → HavePlaces st.base → IsWhole st → HasDevices st → IsSound st.base st.objects → now ≡ served_by serve_object st → IsSound now.base now.objects
 served_sound st now places whole none all same =
     let has = asked_of_next (parts_of st) (serve_object (parts_of st)) refl (asked_of st places whole none all) in
     subst (λ (st : State). IsSound st.base st.objects) (sym same) (sound_of _ has)
 
-pub refreshed_sound : (st now : State) → HavePlaces st.base → IsWhole st → HasNone st → IsSound st.base st.objects → now ≡ with_parts st (refreshed (parts_of st)) → IsSound now.base now.objects
+pub refreshed_sound : (st now : State) → HavePlaces st.base → IsWhole st → HasDevices st → IsSound st.base st.objects → now ≡ with_parts st (refreshed (parts_of st)) → IsSound now.base now.objects
 refreshed_sound st now places whole none all same =
     let has = refreshed_keeps HasAsked asks_are_kept.refreshed (parts_of st) (asked_of st places whole none all) in
     subst (λ (st : State). IsSound st.base st.objects) (sym same) (sound_of _ has)
@@ -327,13 +267,14 @@ pub served_spent : (done : ℕ) (p all : Parts) → 512 ≤ done → served_with
 unfolding served_within
 served_spent done p all spent rest = let none : 512 - done ≡ 0 = omega arith in sym (ap (λ n. served_within n p) none) ∙ rest
 
--- ---- requests go to no driver
+-- ---- requests go to drivers
 
-pub handed_none : (mode : Mode) (st : State) → HasNone st → st ≡ with_parts st (handed mode (parts_of st))
-handed_none modes.Sync st none = refl
-handed_none modes.Free st none =
-    let same : st.objects.devices.queued ≡ [] = ap (λ (dv : Devices). dv.queued) none.devices in
-    ap (λ (dv : Devices). record st { objects = record st.objects { devices = dv } }) (sym (hand_over_none st.base st.objects.devices same))
+pub handed_is : (mode : Mode) (view st : State) (dv : Devices) → view ≡ st → dv ≡ handed_devices mode view.base view.objects.devices →
+    record view { objects = record view.objects { devices = dv } } ≡ with_parts st (handed mode (parts_of st))
+handed_is modes.Sync view st dv same is = ap {A = Devices} (λ (d : Devices). record view { objects = record view.objects { devices = d } }) is ∙ same
+handed_is modes.Free view st dv same is =
+    ap {A = Devices} (λ (d : Devices). record view { objects = record view.objects { devices = d } }) is
+    ∙ ap (λ (s : State). record s { objects = record s.objects { devices = hand_over s.base s.objects.devices } }) same
 
 -- what changes the parts alone leaves the rest
 pub same_parts : (first st now : State) (p : Parts) → st ≡ with_parts first (parts_of st) → now ≡ with_parts st p → now ≡ with_parts first (parts_of now)

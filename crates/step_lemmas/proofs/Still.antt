@@ -14,7 +14,14 @@ use Rattle.object_model.specs.Mails.Boxes.{box_serves, box_waiters, serve_box, s
 use Rattle.object_model.specs.Mails.Buffers.{buffer_serves, first_of, has_space, receivers, senders, serve_buffer, serve_buffer_at, serve_buffers}
 use Rattle.device_model.specs.Devices.Endings.{DevParts}
 use Rattle.device_model.specs.Devices.Handing.{any_given, suspension_object}
-use Rattle.device_model.specs.Devices.Servings.{serve_suspension, suspended_unless, suspension_by}
+use Rattle.device_model.specs.declared.rows.Wish.{Wish}
+use Rattle.device_model.specs.declared.rows.Wish.TheVariants as wish
+use Rattle.device_model.specs.Devices.Endings.{close_object}
+use Rattle.device_model.specs.Devices.Requests.{acceptance_object, ending_object, has_place, picked}
+use Rattle.device_model.specs.Devices.Servings.{acceptance_by, admitted_if, admitted_wish, close_by, closed_unless, descriptors, ending_claimed, ending_of_first, is_with_driver, serve_acceptance, serve_acceptances, serve_close, serve_closes, serve_ending, serve_endings, serve_suspension, suspended_unless, suspension_by}
+use Rattle.device_model.specs.Devices.Tables.{device_ids, wish_of}
+use Rattle.std.specs.List.{find}
+use Rattle.std.specs.Option.{is_some}
 use Rattle.machine_model.specs.States.Objects.{Parts, dev_parts, kinds, mail_parts, serve_object}
 use Rattle.machine_model.specs.States.State.{State, parts_of}
 use Rattle.machine_model.specs.Events.Follow.{Event, behind, followed}
@@ -35,8 +42,7 @@ use Rattle.ask_lemmas.proofs.ReachedAsked.{HasAsked, asks_are_kept}
 use Rattle.ask_lemmas.proofs.WholeWalk.{kept_first}
 use Rattle.step_lemmas.specs.Sound.{IsSound, IsWhole}
 use Rattle.step_lemmas.proofs.Sound.{asked_of, sound_of}
-use Rattle.step_lemmas.specs.Built.{HasNone, no_devices}
-use Rattle.step_lemmas.proofs.Servings.{none_accepted, none_closed, none_ended}
+use Rattle.step_lemmas.specs.Known.{HasDevices}
 
 abbrev with_memory : MailParts → List ℕ → MailParts
 with_memory p memory = record p { memory = memory }
@@ -75,6 +81,58 @@ unfolding serve_buffers serve_buffer
 buffers_none p memory is =
     first_none_by (serve_buffer p) (serve_buffer (with_memory p memory)) (taken_from 1 (drop 1 p.table.buffers)) (taken_from 1 (drop 1 p.table.buffers)) refl (λ id none. buffer_in p memory id (buffer_at p.table id) none) is
 
+-- waits at devices: whether one can be served doesn't hang on the memory
+abbrev remembering : DevParts → List ℕ → DevParts
+remembering p memory = record p { memory = memory }
+
+wish_admits : (p : DevParts) (memory : List ℕ) (d t : ℕ) (asked : Wish) → admitted_wish p d t asked ≡ None → admitted_wish (remembering p memory) d t asked ≡ None
+wish_admits p memory d t (wish.Acceptance transfer stays) is = absurd (cc is)
+wish_admits p memory d t wish.Nothing is = refl
+wish_admits p memory d t (wish.Ending request serial own) is = refl
+wish_admits p memory d t wish.AnyEnding is = refl
+
+place_admits : (place : Bool) (p : DevParts) (memory : List ℕ) (d t : ℕ) → admitted_if place p d t ≡ None → admitted_if place (remembering p memory) d t ≡ None
+place_admits false p memory d t is = refl
+place_admits true p memory d t is = wish_admits p memory d t (wish_of p.table t) is
+
+accepted_by : (p : DevParts) (memory : List ℕ) (d : ℕ) (waiters : List ℕ) → acceptance_by p d waiters ≡ None → acceptance_by (remembering p memory) d waiters ≡ None
+accepted_by p memory d [] is = refl
+accepted_by p memory d (t ∷ ts) is = place_admits (has_place p.table d) p memory d t is
+
+acceptances_none : (p : DevParts) (memory : List ℕ) → serve_acceptances p ≡ None → serve_acceptances (remembering p memory) ≡ None
+unfolding serve_acceptances serve_acceptance
+acceptances_none p memory is =
+    first_none_by (serve_acceptance p) (serve_acceptance (remembering p memory)) (device_ids p.table) (device_ids p.table) refl
+    (λ d none. accepted_by p memory d (fifo_queue p.base (acceptance_object d)) none) is
+
+claimed_by : (p : DevParts) (memory : List ℕ) (t : ℕ) (found : Option ℕ) → ending_claimed p t found ≡ None → ending_claimed (remembering p memory) t found ≡ None
+claimed_by p memory t None is = refl
+claimed_by p memory t (Some id) is = absurd (cc is)
+
+ended_by : (p : DevParts) (memory : List ℕ) (dd : ℕ) (first : Option ℕ) → ending_of_first p dd first ≡ None → ending_of_first (remembering p memory) dd first ≡ None
+ended_by p memory dd None is = refl
+ended_by p memory dd (Some t) is = claimed_by p memory t (picked p.table dd (wish_of p.table t)) is
+
+endings_none : (p : DevParts) (memory : List ℕ) → serve_endings p ≡ None → serve_endings (remembering p memory) ≡ None
+unfolding serve_endings serve_ending
+endings_none p memory is =
+    first_none_by (serve_ending p) (serve_ending (remembering p memory)) (descriptors p.table) (descriptors p.table) refl
+    (λ dd none. ended_by p memory dd (find (λ t. is_some (picked p.table dd (wish_of p.table t))) (fifo_queue p.base (ending_object dd))) none) is
+
+closed_if : (with_driver : Bool) (p : DevParts) (memory : List ℕ) (dd t : ℕ) → closed_unless with_driver p dd t ≡ None → closed_unless with_driver (remembering p memory) dd t ≡ None
+closed_if true p memory dd t is = refl
+closed_if false p memory dd t is = absurd (cc is)
+
+closed_by : (p : DevParts) (memory : List ℕ) (dd : ℕ) (waiters : List ℕ) → close_by p dd waiters ≡ None → close_by (remembering p memory) dd waiters ≡ None
+closed_by p memory dd [] is = refl
+closed_by p memory dd (t ∷ ts) is = closed_if (is_with_driver p.table dd) p memory dd t is
+
+closes_none : (p : DevParts) (memory : List ℕ) → serve_closes p ≡ None → serve_closes (remembering p memory) ≡ None
+unfolding serve_closes serve_close
+closes_none p memory is =
+    first_none_by (serve_close p) (serve_close (remembering p memory)) (descriptors p.table) (descriptors p.table) refl
+    (λ dd none. closed_by p memory dd (fifo_queue p.base (close_object dd)) none) is
+
 suspended_by : (any : Bool) (p : DevParts) (memory : List ℕ) (t : ℕ) → suspended_unless any p t ≡ None → suspended_unless any (record p { memory = memory }) t ≡ None
 suspended_by true p memory t is = refl
 suspended_by false p memory t is = absurd (cc is)
@@ -88,9 +146,9 @@ unfolding serve_suspension
 suspension_none p memory is = suspension_in p memory (fifo_queue p.base suspension_object) is
 
 -- where nobody can be served, nobody can be with another memory
-pub memory_unserved : (p : Parts) (memory : List ℕ) → p.objects.devices ≡ no_devices → serve_object p ≡ None → serve_object (record p { memory = memory }) ≡ None
+pub memory_unserved : (p : Parts) (memory : List ℕ) → serve_object p ≡ None → serve_object (record p { memory = memory }) ≡ None
 unfolding serve_object AllKinds
-memory_unserved p memory none is =
+memory_unserved p memory is =
     let all = each_kind kinds p is in
     let now : Parts = record p { memory = memory } in
     no_kind kinds now (
@@ -106,10 +164,10 @@ memory_unserved p memory none is =
               (
                 mapped_none _ _ (unmapped _ _ all.1.1.1.1.1.0),
                 (
-                  mapped_none _ _ (none_accepted now none),
+                  mapped_none _ _ (acceptances_none (dev_parts p) memory (unmapped _ _ all.1.1.1.1.1.1.0)),
                   (
-                    mapped_none _ _ (none_ended now none),
-                    (mapped_none _ _ (none_closed now none), (mapped_none _ _ (suspension_none (dev_parts p) memory (unmapped _ _ all.1.1.1.1.1.1.1.1.1.0)), tt)),
+                    mapped_none _ _ (endings_none (dev_parts p) memory (unmapped _ _ all.1.1.1.1.1.1.1.0)),
+                    (mapped_none _ _ (closes_none (dev_parts p) memory (unmapped _ _ all.1.1.1.1.1.1.1.1.0)), (mapped_none _ _ (suspension_none (dev_parts p) memory (unmapped _ _ all.1.1.1.1.1.1.1.1.1.0)), tt)),
                   ),
                 ),
               ),
@@ -124,9 +182,9 @@ given_still modes.Sync p memory is = refl
 given_still modes.Free p memory is = ap (λ (q : Parts). record q { memory = memory }) is
 
 -- a state at rest stays so when its frames and the script's memory change
-pub still_rest : (mode : Mode) (st : State) (frames : List Frame) (memory : List ℕ) → st.objects.devices ≡ no_devices → IsAtRest mode st → IsAtRest mode (record st { frames = frames; memory = memory })
-still_rest mode st frames memory none rest = record {
-  unserved = memory_unserved (parts_of st) memory none rest.unserved;
+pub still_rest : (mode : Mode) (st : State) (frames : List Frame) (memory : List ℕ) → IsAtRest mode st → IsAtRest mode (record st { frames = frames; memory = memory })
+still_rest mode st frames memory rest = record {
+  unserved = memory_unserved (parts_of st) memory rest.unserved;
   up_to_date = rest.up_to_date;
   given = given_still mode (parts_of st) memory rest.given;
   followed = rest.followed;
@@ -134,13 +192,13 @@ still_rest mode st frames memory none rest = record {
 }
 
 -- the same in the form of the code
-pub still_at_rest : (mode : Mode) (view st now : State) (frames : List Frame) (memory : List ℕ) → view ≡ st → HasNone st → IsAtRest mode st → now ≡ record view { frames = frames; memory = memory } → IsAtRest mode now
-still_at_rest mode view st now frames memory same none rest moved =
+pub still_at_rest : (mode : Mode) (view st now : State) (frames : List Frame) (memory : List ℕ) → view ≡ st → IsAtRest mode st → now ≡ record view { frames = frames; memory = memory } → IsAtRest mode now
+still_at_rest mode view st now frames memory same rest moved =
     let here : now ≡ record st { frames = frames; memory = memory } = moved ∙ ap (λ (s : State). record s { frames = frames; memory = memory }) same in
-    subst (IsAtRest mode) (sym here) (still_rest mode st frames memory none.devices rest)
+    subst (IsAtRest mode) (sym here) (still_rest mode st frames memory rest)
 
 -- each task that waits stands in its order after what is done at a step
-pub done_sound : (script : Script) (mode : Mode) (n : ℕ) (old ready now : State) (turn : Turn) → HavePlaces old.base → IsWhole old → HasNone old → IsSound old.base old.objects → ready ≡ made_pending script n old → turn ≡ turn_of ready → now ≡ (done_turn script mode n ready turn).state → IsSound now.base now.objects
+pub done_sound : (script : Script) (mode : Mode) (n : ℕ) (old ready now : State) (turn : Turn) → HavePlaces old.base → IsWhole old → HasDevices old → IsSound old.base old.objects → ready ≡ made_pending script n old → turn ≡ turn_of ready → now ≡ (done_turn script mode n ready turn).state → IsSound now.base now.objects
 done_sound script mode n old ready now turn places whole none all at_ready at_turn at_now =
     let has : HasAsked (parts_of old) = asked_of old places whole none all in
     let here : now ≡ (done_turn script mode n (made_pending script n old) (turn_of (made_pending script n old))).state =

@@ -33,12 +33,25 @@ variable_pools p = option_map (with_pools p) (serve_variable_pools (pool_parts p
 abbrev pub of_devices : (DevParts → Option DevParts) → Parts → Option Parts
 of_devices serve p = option_map (with_devices p) (serve (dev_parts p))
 
+abbrev pub acceptances : Parts → Option Parts
+acceptances = of_devices serve_acceptances
+
+abbrev pub endings : Parts → Option Parts
+endings = of_devices serve_endings
+
+abbrev pub closes : Parts → Option Parts
+closes = of_devices serve_closes
+
 abbrev pub suspension : Parts → Option Parts
 suspension = of_devices serve_suspension
 
--- the kinds behind message buffers, in the order in which settling looks at them
+-- the kinds of waits at devices, in the order in which settling looks at them
+abbrev pub at_devices : List (Parts → Option Parts)
+at_devices = acceptances ∷ endings ∷ closes ∷ suspension ∷ []
+
+-- the kinds behind message buffers
 abbrev pub behind_buffers : List (Parts → Option Parts)
-behind_buffers = fixed_pools ∷ variable_pools ∷ of_devices serve_acceptances ∷ of_devices serve_endings ∷ of_devices serve_closes ∷ suspension ∷ []
+behind_buffers = fixed_pools ∷ variable_pools ∷ at_devices
 
 -- and those behind mailboxes
 abbrev pub behind_boxes : List (Parts → Option Parts)

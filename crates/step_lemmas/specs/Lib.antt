@@ -1,4 +1,4 @@
-pub mod Built
+pub mod Known
 pub mod Sound
 pub mod Kinds
 pub mod Freeing
@@ -6,3 +6,5 @@ pub mod Falling
 pub mod Places
 pub mod Pace
 pub mod Budgets
+pub mod Handed
+pub mod Arrivals

@@ -1,20 +1,18 @@
 //! Calls of tasks and of the running handler.
 
-ghost use Rattle.std.specs.Prelude.{◌≡◌, ◌<◌, ◌^◌, ◌++◌, IfOk, OnOk, false, true};
+ghost use Rattle.std.specs.Prelude.{◌≡◌, ◌<◌, ◌^◌, ◌++◌, IfOk, OnOk};
 ghost use Rattle.machine_model.specs.Events.Bodies.{service_value};
 ghost use Rattle.machine_model.specs.Events.Calls.{after_hook_call, answered, call_lines, called, family_call, views_of};
 ghost use Rattle.context_model.specs.Hooks.Calls.{hook_call};
 ghost use Rattle.machine_model.specs.States.State.{who_of};
-ghost use Rattle.step_lemmas.specs.Built.{is_built};
 ghost use Rattle.step_lemmas.specs.Sound.{IsSound};
 
 use crate::hooking::push_hooked;
 use crate::kernel::Kernel;
-use kernel_base::answers::failed;
 use std::alloc::AllocError;
 use task_machine::give;
 use td_hooks::Views;
-use tk_types::{Call, CallName, ContextCall, Er, Hook, HookCall, Line, Mode, Outcome, Who};
+use tk_types::{Call, CallName, ContextCall, Hook, HookCall, Line, Mode, Outcome, Who};
 
 /// Who acts in the frame with a number: the running handler in 0, and a task in each other one.
 fn who_of(actor: u8) -> Who
@@ -95,7 +93,6 @@ impl Kernel {
         requires few { self.old.base.made < 2 ^ 63 }
         requires early { self.old.base.time < 2 ^ 63 }
         requires sound { IsSound self.old.base self.old.objects }
-        requires built { is_built call.now ≡ true }
         ensures { IfOk result (λ outcome. family_call self.old actor call.now ≡ record { state = self.new; outcome = outcome }) }
     {
         let who = who_of(actor);
@@ -121,7 +118,14 @@ impl Kernel {
                 call,
             )),
             Call::Hook(call) => Ok(self.debugger_call(who, call)),
-            Call::Device(_) => Ok(failed(Er::NoSpt)),
+            Call::Device(call) => dev_layer::call(
+                &mut self.base,
+                &mut self.devices,
+                &mut self.mails,
+                &mut self.memory,
+                who,
+                call,
+            ),
         }
     }
 
@@ -155,14 +159,13 @@ impl Kernel {
         requires few { self.old.base.made < 2 ^ 63 }
         requires early { self.old.base.time < 2 ^ 63 }
         requires sound { IsSound self.old.base self.old.objects }
-        requires built { is_built call.now ≡ true }
         ensures state { OnOk result (self.new ≡ (called mode step self.old actor call.now).state) }
         ensures lines { OnOk result (lines.new.items ≡ lines.old.items ++ (called mode step self.old actor call.now).lines) }
     {
         self.known_of_tasks();
         let is_hooked = self.hooks().svc;
         let outcome = self.family_call(actor, call)?;
-        self.end_holdings(mode, actor, call, outcome);
+        self.end_holdings(mode, actor, call, outcome)?;
         self.take_answer(actor, call, outcome);
         push_call_line(lines, is_hooked, step, actor, call.name(), outcome)?;
         Ok(())

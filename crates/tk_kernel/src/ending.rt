@@ -1,6 +1,6 @@
 //! What a task leaves that a call has ended.
 
-ghost use Rattle.std.specs.Prelude.{◌≡◌, ◌<◌, ◌≤◌, ◌-◌};
+ghost use Rattle.std.specs.Prelude.{◌≡◌, ◌<◌, ◌≤◌, ◌-◌, OnOk};
 ghost use Rattle.machine_model.specs.Events.Calls.{ended_by, ended_in, without_holdings};
 ghost use Rattle.std.specs.Option.{is_some};
 ghost use Rattle.object_model.specs.Mutexes.Tables.{free_last};
@@ -10,6 +10,7 @@ ghost use Rattle.step_lemmas.specs.Sound.{IsSound};
 ghost use Rattle.machine_model.specs.States.State.{parts_of, with_parts};
 
 use crate::kernel::Kernel;
+use std::alloc::AllocError;
 use tk_types::{Call, Mode, Outcome, TaskCall};
 
 /// The most mutexes that a task can hold: all that there may be.
@@ -63,37 +64,46 @@ impl Kernel {
     }
 
     /// A task that ended frees its mutexes, the one locked last first, and all settles after each.
-    fn free_all(&mut self, mode: Mode, task: u8)
+    fn free_all(&mut self, mode: Mode, task: u8) -> Result<(), AllocError>
         requires sound { IsSound self.old.base self.old.objects }
-        ensures { self.new ≡ with_parts self.old (freed mode task (parts_of self.old)) }
+        ensures { OnOk result (self.new ≡ with_parts self.old (freed mode task (parts_of self.old))) }
     {
         'mutexes: for _freed in 0..MOST_MUTEXES {
             if !self.free_one(task) {
-                return;
+                return Ok(());
             }
-            self.settle(mode);
+            self.settle(mode)?;
         }
+        Ok(())
     }
 
     /// A task that ended leaves all its services, and frees its mutexes.
-    fn drop_holdings(&mut self, mode: Mode, task: u8)
+    fn drop_holdings(&mut self, mode: Mode, task: u8) -> Result<(), AllocError>
         requires sound { IsSound self.old.base self.old.objects }
-        ensures { self.new ≡ without_holdings mode self.old task }
+        ensures { OnOk result (self.new ≡ without_holdings mode self.old task) }
     {
         if task == 0 {
-            return;
+            return Ok(());
         }
         contexts::left(&mut self.contexts, task, true);
-        self.free_all(mode, task);
+        self.free_all(mode, task)?;
+        Ok(())
     }
 
     /// What a task leaves that a call has ended.
-    pub(crate) fn end_holdings(&mut self, mode: Mode, actor: u8, call: &Call, outcome: Outcome)
+    pub(crate) fn end_holdings(
+        &mut self,
+        mode: Mode,
+        actor: u8,
+        call: &Call,
+        outcome: Outcome,
+    ) -> Result<(), AllocError>
         requires sound { IsSound self.old.base self.old.objects }
         requires task { ended_by actor call.now outcome < 256 }
-        ensures { self.new ≡ without_holdings mode self.old (ended_by actor call.now outcome) }
+        ensures { OnOk result (self.new ≡ without_holdings mode self.old (ended_by actor call.now outcome)) }
     {
         let task = ended_by(actor, call, outcome);
-        self.drop_holdings(mode, task as u8);
+        self.drop_holdings(mode, task as u8)?;
+        Ok(())
     }
 }

@@ -3,18 +3,20 @@
 ghost use Rattle.std.specs.Prelude.{◌≡◌, IfOk, [], length, pos, replicate, slice_set, unwrap_or};
 ghost use Rattle.kernel_model.specs.Tasks.Waits.{HavePlaces};
 ghost use Rattle.kernel_model.specs.Bodies.Statements.{IsRunnable, start_frame};
+ghost use Rattle.dev_layer.specs.Tables.{AreDevices};
 ghost use Rattle.kernel_model.specs.SemFlags.Tables.{sem_flags_start};
 ghost use Rattle.object_model.specs.Mutexes.Tables.{mutexes_start};
 ghost use Rattle.context_model.specs.Clocks.Tables.{clocks_start};
 ghost use Rattle.context_model.specs.Contexts.Tables.{contexts_start};
 ghost use Rattle.object_model.specs.Mails.Tables.{mails_start};
 ghost use Rattle.object_model.specs.Pools.Tables.{pools_start};
-ghost use Rattle.step_lemmas.specs.Built.{HasNone};
+ghost use Rattle.step_lemmas.specs.Known.{HasDevices};
 ghost use Rattle.step_lemmas.specs.Sound.{IsWhole};
 ghost use Rattle.tk_kernel.specs.Tables.{AreTables};
 ghost use Rattle.machine_model.specs.States.State.{frame_of, no_frame, state_start, with_frame};
 
 use contexts::Contexts;
+use dev_layer::Devices;
 use kernel_base::{Base, Event};
 use mail_buffer::Mails;
 use mem_pools::Pools;
@@ -38,6 +40,7 @@ pub(crate) struct Kernel {
     pub(crate) pools: Pools,
     pub(crate) clocks: Clocks,
     pub(crate) contexts: Contexts,
+    pub(crate) devices: Devices,
     pub(crate) hooks: Hooks,
     /// By task: the body that a start begins.
     pub(crate) bodies: Vec<u8>,
@@ -60,12 +63,11 @@ pub(crate) struct Kernel {
 
 impl Model for Kernel {
     ghost use Rattle.machine_model.specs.States.State.{State};
-    ghost use Rattle.step_lemmas.specs.Built.{no_devices};
     ghost use Rattle.tk_kernel.specs.Tables.{AreTables};
 
     ghost Value = { State };
 
-    ghost view = { λ k. record { base = k.base; objects = record { sem_flags = k.sem_flags; mutexes = k.mutexes; mails = k.mails; pools = k.pools; clocks = k.clocks; contexts = k.contexts; devices = no_devices }; bodies = k.bodies.items; frames = k.frames.items; saved = k.saved.items; memory = k.memory; due = k.due.items; pending = k.pending.items; ticks = k.ticks; hooks = k.hooks; halted = k.halted; steps = k.steps } };
+    ghost view = { λ k. record { base = k.base; objects = record { sem_flags = k.sem_flags; mutexes = k.mutexes; mails = k.mails; pools = k.pools; clocks = k.clocks; contexts = k.contexts; devices = k.devices }; bodies = k.bodies.items; frames = k.frames.items; saved = k.saved.items; memory = k.memory; due = k.due.items; pending = k.pending.items; ticks = k.ticks; hooks = k.hooks; halted = k.halted; steps = k.steps } };
 
     ghost invariant = { λ k. AreTables k.bodies.items k.frames.items k.saved.items };
 }
@@ -137,9 +139,10 @@ impl Kernel {
     /// The start: task 1 is READY, at the start of the boot body.
     pub(crate) fn new(alloc: Global, script: &Script) -> Result<Kernel, AllocError>
         requires runnable { IsRunnable script.now }
-        requires none { script.now.devices ≡ [] }
+        requires devices { AreDevices script.now.devices }
         ensures { IfOk result (λ kernel. kernel ≡ state_start script.now) }
     {
+        let devices = Devices::new(alloc, script)?;
         let objects = no_objects(alloc)?;
         let stores = no_stores(alloc)?;
         let tables = first_frames(alloc, script.boot.body)?;
@@ -156,6 +159,7 @@ impl Kernel {
             pools,
             clocks,
             contexts,
+            devices,
             hooks: Hooks::new(),
             bodies,
             frames,
@@ -184,16 +188,17 @@ impl Kernel {
     }
 
     /// States, at no cost, that there is a place for each task in all tables, that each task that waits has its places
-    /// among the stamps and by the beginning of its wait, and that there is no device.
+    /// among the stamps and by the beginning of its wait, and what the table of devices always is.
     pub(crate) fn known_of_tasks(&self)
         ensures whole { IsWhole self.now }
         ensures slots { length self.now.base.tasks ≡ 256 }
         ensures places { HavePlaces self.now.base }
-        ensures none { HasNone self.now }
+        ensures devices { HasDevices self.now }
     {
         self.base.known_of_tasks();
         self.mails.known_of_tasks();
         self.pools.known_of_tasks();
+        self.devices.known_of_devices();
         let _bytes = size(&self.memory);
     }
 

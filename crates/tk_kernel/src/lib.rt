@@ -1,6 +1,7 @@
 //! The machine: it runs a script step by step and keeps the lines of the trace.
 #![tactic(auto)]
 
+mod arriving;
 mod bodies;
 mod calls;
 mod ending;
@@ -8,6 +9,8 @@ mod handlers;
 mod hooking;
 mod kernel;
 mod machine;
+mod messages;
+mod pacing;
 mod running;
 mod serving;
 mod settling;
@@ -15,4 +18,5 @@ mod stepping;
 mod ticks;
 mod turns;
 
-pub use machine::{Machine, Pace};
+pub use machine::{Arrival, Machine};
+pub use pacing::Pace;

@@ -1,10 +1,9 @@
 //! Statements of tasks, services and the running handler.
 
 ghost use Rattle.std.specs.Prelude.{◌≡◌, ◌<◌, ◌^◌, ◌∷◌, ◌++◌, IfOk, OnOk, [], false, true};
-ghost use Rattle.tk_types.specs.declared.run.Act.TheVariants as acts;
+ghost use Rattle.kernel_model.specs.Bodies.Statements.{IsRunnable};
 ghost use Rattle.machine_model.specs.Events.Rest.{IsAtRest};
 ghost use Rattle.machine_model.specs.Runs.Turns.{acted, fell, ran, said_line};
-ghost use Rattle.step_lemmas.specs.Built.{IsBuilt, is_built};
 ghost use Rattle.step_lemmas.specs.Sound.{IsSound};
 
 use crate::kernel::Kernel;
@@ -65,7 +64,6 @@ impl Kernel {
         requires few { self.old.base.made < 2 ^ 63 }
         requires early { self.old.base.time < 2 ^ 63 }
         requires sound { IsSound self.old.base self.old.objects }
-        requires built { (call : _) → act.now ≡ acts.Call call → is_built call ≡ true }
         requires rest { IsAtRest mode self.old }
         ensures state { OnOk result (self.new ≡ (acted mode step self.old actor act.now).state) }
         ensures lines { OnOk result (lines.new.items ≡ lines.old.items ++ (acted mode step self.old actor act.now).lines) }
@@ -106,7 +104,7 @@ impl Kernel {
         actor: u8,
         lines: &mut Vec<Line>,
     ) -> Result<bool, AllocError>
-        requires built { IsBuilt script.now }
+        requires runnable { IsRunnable script.now }
         requires few { self.old.base.made < 2 ^ 63 }
         requires early { self.old.base.time < 2 ^ 63 }
         requires sound { IsSound self.old.base self.old.objects }

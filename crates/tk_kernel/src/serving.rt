@@ -1,16 +1,12 @@
 //! Servings, kind by kind.
 
-ghost use Rattle.std.specs.Prelude.{◌≡◌};
+ghost use Rattle.std.specs.Prelude.{◌≡◌, IfOk, OnOk};
 ghost use Rattle.machine_model.specs.States.Objects.{first_serving, serve_object};
-ghost use Rattle.step_lemmas.specs.Kinds.{Serves, behind_boxes, behind_buffers, buffers, fixed_pools, mailboxes, mutexes, sem_flags, suspension, variable_pools};
+ghost use Rattle.step_lemmas.specs.Kinds.{Serves, acceptances, at_devices, behind_boxes, behind_buffers, buffers, closes, endings, fixed_pools, mailboxes, mutexes, sem_flags, suspension, variable_pools};
 ghost use Rattle.step_lemmas.specs.Sound.{IsSound};
 
 use crate::kernel::Kernel;
-use kernel_base::Order;
-use kernel_base::answers::plain;
-
-/// The object for which the caller of a suspension waits.
-const SUSPENSION: u32 = 648;
+use std::alloc::AllocError;
 
 impl Kernel {
     /// One waiter of the first semaphore, or else of the first event flag, that can serve one.
@@ -61,72 +57,120 @@ impl Kernel {
         mem_pools::serve_first_variable(&mut self.base, &mut self.pools)
     }
 
-    /// A task that waits for a suspension. There is no device, so it doesn't have to wait.
+    /// The same of acceptances of requests, whose bytes take memory of the host.
+    fn serve_acceptance(&mut self) -> Result<bool, AllocError>
+        requires sound { IsSound self.old.base self.old.objects }
+        ensures { IfOk result (λ served. Serves acceptances self.old self.new served) }
+    {
+        dev_layer::serve_first_acceptance(
+            &mut self.base,
+            &mut self.devices,
+            &self.mails,
+            &mut self.memory,
+        )
+    }
+
+    /// The same of the endings of requests.
+    fn serve_ending(&mut self) -> bool
+        requires sound { IsSound self.old.base self.old.objects }
+        ensures { Serves endings self.old self.new result }
+    {
+        dev_layer::serve_first_ending(&mut self.base, &mut self.devices)
+    }
+
+    /// The same of closes.
+    fn serve_close(&mut self) -> bool
+        requires sound { IsSound self.old.base self.old.objects }
+        ensures { Serves closes self.old self.new result }
+    {
+        dev_layer::serve_first_close(&mut self.base, &mut self.devices)
+    }
+
+    /// The same of the suspension, whose events go to message buffers.
     fn serve_suspension(&mut self) -> bool
         requires sound { IsSound self.old.base self.old.objects }
         ensures { Serves suspension self.old self.new result }
     {
-        self.known_of_tasks();
-        match self.base.waiter(Order::Fifo, SUSPENSION, 0) {
-            None => false,
-            Some(task) => {
-                self.base.release(task, plain(0));
-                true
-            }
-        }
+        dev_layer::serve_suspension(
+            &mut self.base,
+            &mut self.devices,
+            &mut self.mails,
+            &mut self.memory,
+        )
     }
 
-    /// The first fixed pool, variable pool or suspension that can serve a waiter serves one.
-    fn serve_behind_buffers(&mut self) -> bool
+    /// The first acceptance, ending or close, or else the suspension, that can serve a waiter serves one.
+    fn serve_devices(&mut self) -> Result<bool, AllocError>
         requires sound { IsSound self.old.base self.old.objects }
-        ensures { Serves (first_serving behind_buffers) self.old self.new result }
+        ensures { IfOk result (λ served. Serves (first_serving at_devices) self.old self.new served) }
+    {
+        let accepted = self.serve_acceptance()?;
+        if accepted {
+            return Ok(true);
+        }
+        if self.serve_ending() {
+            return Ok(true);
+        }
+        if self.serve_close() {
+            return Ok(true);
+        }
+        Ok(self.serve_suspension())
+    }
+
+    /// The first fixed pool, variable pool or object of a device that can serve a waiter serves one.
+    fn serve_behind_buffers(&mut self) -> Result<bool, AllocError>
+        requires sound { IsSound self.old.base self.old.objects }
+        ensures { IfOk result (λ served. Serves (first_serving behind_buffers) self.old self.new served) }
     {
         if self.serve_fixed_pool() {
-            return true;
+            return Ok(true);
         }
         if self.serve_variable_pool() {
-            return true;
+            return Ok(true);
         }
-        self.known_of_tasks();
-        self.serve_suspension()
+        let served = self.serve_devices()?;
+        Ok(served)
     }
 
     /// The first mutex, message buffer or object of a kind behind them that can serve a waiter serves one.
-    fn serve_behind_boxes(&mut self) -> bool
+    fn serve_behind_boxes(&mut self) -> Result<bool, AllocError>
         requires sound { IsSound self.old.base self.old.objects }
-        ensures { Serves (first_serving behind_boxes) self.old self.new result }
+        ensures { IfOk result (λ served. Serves (first_serving behind_boxes) self.old self.new served) }
     {
         if self.serve_mutex() {
-            return true;
+            return Ok(true);
         }
         if self.serve_buffer() {
-            return true;
+            return Ok(true);
         }
-        self.serve_behind_buffers()
+        let served = self.serve_behind_buffers()?;
+        Ok(served)
     }
 
     /// The first object by kind and ID that can serve a waiter serves one. False, with nothing changed, comes exactly where
-    /// none can.
-    fn serve_kinds(&mut self) -> bool
+    /// none can. An error says that there was no memory for the bytes of a request.
+    fn serve_kinds(&mut self) -> Result<bool, AllocError>
         requires sound { IsSound self.old.base self.old.objects }
-        ensures { Serves serve_object self.old self.new result }
+        ensures { IfOk result (λ served. Serves serve_object self.old self.new served) }
     {
         if self.serve_sem_flag() {
-            return true;
+            return Ok(true);
         }
         if self.serve_mailbox() {
-            return true;
+            return Ok(true);
         }
-        self.serve_behind_boxes()
+        let served = self.serve_behind_boxes()?;
+        Ok(served)
     }
 
     /// The same; what waits still stands in its order and has asked for something that fits.
-    pub(crate) fn serve_first(&mut self) -> bool
+    pub(crate) fn serve_first(&mut self) -> Result<bool, AllocError>
         requires sound { IsSound self.old.base self.old.objects }
-        ensures serves { Serves serve_object self.old self.new result }
-        ensures sound { IsSound self.new.base self.new.objects }
+        ensures serves { IfOk result (λ served. Serves serve_object self.old self.new served) }
+        ensures sound { OnOk result (IsSound self.new.base self.new.objects) }
     {
         self.known_of_tasks();
-        self.serve_kinds()
+        let served = self.serve_kinds()?;
+        Ok(served)
     }
 }

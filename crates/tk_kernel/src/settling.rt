@@ -60,45 +60,52 @@ impl Kernel {
         self.take_priorities();
     }
 
-    /// In free mode requests go to the drivers that have none. There is no device yet.
-    fn hand_over(&mut self, _mode: Mode)
-        ensures { self.new ≡ with_parts self.old (handed _mode (parts_of self.old)) }
+    /// In free mode requests go to the drivers that have none.
+    fn hand_over(&mut self, mode: Mode) -> Result<(), AllocError>
+        requires sound { IsSound self.old.base self.old.objects }
+        ensures { OnOk result (self.new ≡ with_parts self.old (handed mode (parts_of self.old))) }
     {
-        self.known_of_tasks();
+        dev_layer::hand_over(&self.base, &mut self.devices, mode, false)?;
+        Ok(())
     }
 
     /// Changed priorities are taken over, and waiters are served one after another until none can be.
-    fn serve_all(&mut self)
+    fn serve_all(&mut self) -> Result<(), AllocError>
         requires sound { IsSound self.old.base self.old.objects }
-        ensures { self.new ≡ with_parts self.old (served_within 512 (refreshed (parts_of self.old))) }
+        ensures served { OnOk result (self.new ≡ with_parts self.old (served_within 512 (refreshed (parts_of self.old)))) }
+        ensures sound { OnOk result (IsSound self.new.base self.new.objects) }
     {
         self.refresh();
         'servings: for _served in 0..MOST_SERVINGS {
-            if !self.serve_first() {
-                return;
+            let served = self.serve_first()?;
+            if !served {
+                return Ok(());
             }
             self.refresh();
         }
+        Ok(())
     }
 
     /// Settling: changed priorities are taken over, waiters are served until none can be, and requests go to drivers.
     #[tactic(auto, unfolding(machine_model::specs::Events::Settle::settle))]
-    fn settle_parts(&mut self, mode: Mode)
+    fn settle_parts(&mut self, mode: Mode) -> Result<(), AllocError>
         requires sound { IsSound self.old.base self.old.objects }
-        ensures { self.new ≡ settled mode self.old }
+        ensures { OnOk result (self.new ≡ settled mode self.old) }
     {
-        self.serve_all();
-        self.hand_over(mode);
+        self.serve_all()?;
+        self.hand_over(mode)?;
+        Ok(())
     }
 
     /// The same; what waits still stands in its order and has asked for something that fits.
-    pub(crate) fn settle(&mut self, mode: Mode)
+    pub(crate) fn settle(&mut self, mode: Mode) -> Result<(), AllocError>
         requires sound { IsSound self.old.base self.old.objects }
-        ensures settled { self.new ≡ settled mode self.old }
-        ensures sound { IsSound self.new.base self.new.objects }
+        ensures settled { OnOk result (self.new ≡ settled mode self.old) }
+        ensures sound { OnOk result (IsSound self.new.base self.new.objects) }
     {
         self.known_of_tasks();
-        self.settle_parts(mode);
+        self.settle_parts(mode)?;
+        Ok(())
     }
 
     /// A wait that ended has its line, and its answer goes into the registers of its task.
@@ -178,7 +185,7 @@ impl Kernel {
         ensures state { OnOk result (self.new ≡ (followed script.now mode step self.old).state) }
         ensures lines { OnOk result (lines.new.items ≡ lines.old.items ++ (followed script.now mode step self.old).lines) }
     {
-        self.settle(mode);
+        self.settle(mode)?;
         self.follow_releases(script, step, lines)?;
         self.dispatch(step, lines)?;
         Ok(())

@@ -3,9 +3,9 @@
 ghost use Rattle.std.specs.Prelude.{◌≡◌, ◌<◌, ◌≤◌, ◌+◌, ◌^◌, ◌++◌, IfOk, OnOk, length, nat_le};
 ghost use Rattle.std.specs.Bool.{◌==◌};
 ghost use Rattle.std.specs.List.{list_any};
+ghost use Rattle.kernel_model.specs.Bodies.Statements.{IsRunnable};
 ghost use Rattle.machine_model.specs.Events.Rest.{IsAtRest};
 ghost use Rattle.machine_model.specs.Runs.Step.{end_after, has_event, is_paced, is_quiet, made_pending, paced, worked};
-ghost use Rattle.step_lemmas.specs.Built.{IsBuilt};
 ghost use Rattle.step_lemmas.specs.Pace.{end_lines};
 ghost use Rattle.step_lemmas.specs.Sound.{IsSound};
 
@@ -115,7 +115,7 @@ impl Kernel {
         step: u32,
         lines: &mut Vec<Line>,
     ) -> Result<(), AllocError>
-        requires built { IsBuilt script.now }
+        requires runnable { IsRunnable script.now }
         requires few { self.old.base.made + length self.old.base.events < 2 ^ 63 }
         requires early { self.old.base.time + 1 < 2 ^ 63 }
         requires ticks { self.old.ticks < 2 ^ 31 }

@@ -35,7 +35,7 @@ impl Kernel {
                 self.known_of_tasks();
                 let answer = limit_answer(&self.base, task);
                 self.base.release(task, answer);
-                self.settle(mode);
+                self.settle(mode)?;
             }
             Event::Cyclic(_) => self.due.push_back(what)?,
             Event::Alarm(_) => self.due.push_back(what)?,

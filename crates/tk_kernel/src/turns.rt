@@ -1,9 +1,9 @@
 //! Whose turn it is at a step, and what is done then.
 
 ghost use Rattle.std.specs.Prelude.{◌≡◌, ◌<◌, ◌≤◌, ◌+◌, ◌^◌, ◌++◌, IfOk, OnOk, false, length};
+ghost use Rattle.kernel_model.specs.Bodies.Statements.{IsRunnable};
 ghost use Rattle.machine_model.specs.Events.Rest.{IsAtRest};
 ghost use Rattle.machine_model.specs.Runs.Turns.{done_turn, turn_of, turn_of_events};
-ghost use Rattle.step_lemmas.specs.Built.{IsBuilt};
 ghost use Rattle.step_lemmas.specs.Sound.{IsSound};
 
 use crate::kernel::Kernel;
@@ -55,7 +55,7 @@ impl Kernel {
         turn: Turn,
         lines: &mut Vec<Line>,
     ) -> Result<bool, AllocError>
-        requires built { IsBuilt script.now }
+        requires runnable { IsRunnable script.now }
         requires few { self.old.base.made + length self.old.base.events < 2 ^ 63 }
         requires early { self.old.base.time + 1 < 2 ^ 63 }
         requires sound { IsSound self.old.base self.old.objects }

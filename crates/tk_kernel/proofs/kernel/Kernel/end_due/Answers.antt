@@ -12,13 +12,13 @@ returns-in_default c =
 
 pub fall-requires : goal.fall-requires
 fall-requires c = record {
-  sound = taken_sound (the_view c.self.inside) c.due.self c.tick.new.base c.in-Some.what c.self.view_is c.known_of_tasks.ensures.places c.known_of_tasks.ensures.whole c.known_of_tasks.ensures.none c.due.invariant.sound
+  sound = taken_sound (the_view c.self.inside) c.due.self c.tick.new.base c.in-Some.what c.self.view_is c.known_of_tasks.ensures.places c.known_of_tasks.ensures.whole c.known_of_tasks.ensures.devices c.due.invariant.sound
       (c.tick.ensures.left ∙ ap (again_if (take_due (the_view c.self.inside).base) (the_view c.self.inside).objects.clocks) c.in-Some.is);
 }
 
 pub due-preserved : goal.due-preserved
 due-preserved c =
-    due_more c.args.most c.due._done c.args.mode c.args.self.now (the_view c.self.inside) c.due.self c.fall.new.self c.tick.new.base c.in-Some.what _ c.self.view_is c.due-test.true c.known_of_tasks.ensures.places c.known_of_tasks.ensures.whole c.known_of_tasks.ensures.none
+    due_more c.args.most c.due._done c.args.mode c.args.self.now (the_view c.self.inside) c.due.self c.fall.new.self c.tick.new.base c.in-Some.what _ c.self.view_is c.due-test.true c.known_of_tasks.ensures.places c.known_of_tasks.ensures.whole c.known_of_tasks.ensures.devices
     (sym c.in-Some.is ∙ c.tick.ensures.event)
     (c.tick.ensures.left ∙ ap (again_if (take_due (the_view c.self.inside).base) (the_view c.self.inside).objects.clocks) c.in-Some.is)
     c.in_ok-fall.ensures c.due.invariant.all c.due.invariant.sound c.due.invariant.makes

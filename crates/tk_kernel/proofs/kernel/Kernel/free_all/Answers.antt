@@ -15,10 +15,10 @@ pub mutexes-preserved : goal.mutexes-preserved
 mutexes-preserved c = record {
   all =
       freed_more c.mutexes._freed c.args.mode c.args.task c.mutexes.self c.free_one.new.self c.settle.new.self _ (omega arith) (sym c.free_one.ensures.freed ∙ c.if-not-free_one.false) c.free_one.ensures.left
-      c.settle.ensures.settled c.mutexes.invariant.all;
+      c.in_ok-settle.ensures.settled c.mutexes.invariant.all;
   same = same_parts c.args.self.now c.free_one.new.self c.settle.new.self (settle c.args.mode (parts_of c.free_one.new.self))
-      (same_parts c.args.self.now c.mutexes.self c.free_one.new.self (parts_of (freed_by c.args.task c.mutexes.self)) c.mutexes.invariant.same c.free_one.ensures.left) c.settle.ensures.settled;
-  sound = c.settle.ensures.sound;
+      (same_parts c.args.self.now c.mutexes.self c.free_one.new.self (parts_of (freed_by c.args.task c.mutexes.self)) c.mutexes.invariant.same c.free_one.ensures.left) c.in_ok-settle.ensures.settled;
+  sound = c.in_ok-settle.ensures.sound;
 }
 
 pub returns : goal.returns

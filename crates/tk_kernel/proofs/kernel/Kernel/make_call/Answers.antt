@@ -3,7 +3,7 @@ use Rattle.tk_kernel.proofs.kernel.Kernel.make_call.Goals as goal
 
 pub end_holdings-requires : goal.end_holdings-requires
 end_holdings-requires c = record {
-  sound = call_sound c.args.self.now c.family_call.new.self c.args.actor c.args.call.now _ c.known_of_tasks.ensures.places c.known_of_tasks.ensures.whole c.known_of_tasks.ensures.none c.requires.sound c.in_ok-outcome.ensures;
+  sound = call_sound c.args.self.now c.family_call.new.self c.args.actor c.args.call.now _ c.known_of_tasks.ensures.places c.known_of_tasks.ensures.whole c.known_of_tasks.ensures.devices c.requires.sound c.in_ok-outcome.ensures;
   task = ended_small c.args.self.now c.family_call.new.self c.args.actor c.args.call.now _ c.ranges.actor.fits c.in_ok-outcome.ensures;
 }
 

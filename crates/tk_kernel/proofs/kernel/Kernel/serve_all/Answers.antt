@@ -13,20 +13,20 @@ servings-init c = record {
   sound = c.refresh.ensures.sound;
 }
 
-pub returns-then-not-serve_first : goal.returns-then-not-serve_first
-returns-then-not-serve_first c =
+pub returns-then-not-served-clause-served : goal.returns-then-not-served-clause-served
+returns-then-not-served-clause-served c =
     with_same c.args.self.now c.servings.self c.serve_first.new.self _ c.servings.invariant.same
-    (served_over _ c.servings.self c.serve_first.new.self _ (sym c.serve_first.ensures.serves.served ∙ c.if-not-serve_first.true) c.serve_first.ensures.serves.left c.servings.invariant.all)
+    (served_over _ c.servings.self c.serve_first.new.self _ (sym c.in_ok-served.ensures.serves.served ∙ c.if-not-served.true) c.in_ok-served.ensures.serves.left c.servings.invariant.all)
 
 pub servings-preserved : goal.servings-preserved
 servings-preserved c = record {
   all =
-      served_more c.servings._served c.servings.self c.serve_first.new.self c.refresh-in-servings.new.self _ (omega arith) (sym c.serve_first.ensures.serves.served ∙ c.if-not-serve_first.false) c.serve_first.ensures.serves.left
+      served_more c.servings._served c.servings.self c.serve_first.new.self c.refresh-in-servings.new.self _ (omega arith) (sym c.in_ok-served.ensures.serves.served ∙ c.if-not-served.false) c.in_ok-served.ensures.serves.left
       c.refresh-in-servings.ensures.taken c.servings.invariant.all;
   same = same_parts c.args.self.now c.serve_first.new.self c.refresh-in-servings.new.self (refreshed (parts_of c.serve_first.new.self))
-      (same_parts c.args.self.now c.servings.self c.serve_first.new.self (unwrap_or (serve_object (parts_of c.servings.self)) (parts_of c.servings.self)) c.servings.invariant.same c.serve_first.ensures.serves.left) c.refresh-in-servings.ensures.taken;
+      (same_parts c.args.self.now c.servings.self c.serve_first.new.self (unwrap_or (serve_object (parts_of c.servings.self)) (parts_of c.servings.self)) c.servings.invariant.same c.in_ok-served.ensures.serves.left) c.refresh-in-servings.ensures.taken;
   sound = c.refresh-in-servings.ensures.sound;
 }
 
-pub returns : goal.returns
-returns c = c.servings.invariant.same ∙ ap (with_parts c.args.self.now) (served_spent c.servings._served (parts_of c.servings.self) _ (omega arith) c.servings.invariant.all)
+pub returns-clause-served : goal.returns-clause-served
+returns-clause-served c = c.servings.invariant.same ∙ ap (with_parts c.args.self.now) (served_spent c.servings._served (parts_of c.servings.self) _ (omega arith) c.servings.invariant.all)

@@ -20,4 +20,4 @@ serve_behind_buffers-requires c = record {
 pub returns : goal.returns
 returns c =
     pool_last c.args.self.now c.serve_mutex.new.self c.serve_buffer.new.self c.serve_behind_buffers.new.self _ _ _ c.serve_mutex.ensures c.if-serve_mutex.false c.serve_buffer.ensures c.if-serve_buffer.false
-    c.serve_behind_buffers.ensures
+    c.in_ok-served.ensures

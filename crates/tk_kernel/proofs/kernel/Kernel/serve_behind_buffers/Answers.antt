@@ -1,5 +1,5 @@
 use Rattle.step_lemmas.specs.Kinds.{fixed_pools, variable_pools}
-use Rattle.step_lemmas.proofs.Servings.{fixed_first, still_sound, suspension_last, variable_then}
+use Rattle.step_lemmas.proofs.Servings.{device_last, fixed_first, still_sound, variable_then}
 use Rattle.tk_kernel.proofs.kernel.Kernel.serve_behind_buffers.Goals as goal
 
 pub returns-then-serve_fixed_pool : goal.returns-then-serve_fixed_pool
@@ -11,13 +11,13 @@ serve_variable_pool-requires c = record { sound = still_sound fixed_pools c.args
 pub returns-then-serve_variable_pool : goal.returns-then-serve_variable_pool
 returns-then-serve_variable_pool c = variable_then c.args.self.now c.serve_fixed_pool.new.self c.serve_variable_pool.new.self _ _ c.serve_fixed_pool.ensures c.if-serve_fixed_pool.false c.serve_variable_pool.ensures c.if-serve_variable_pool.true
 
-pub serve_suspension-requires : goal.serve_suspension-requires
-serve_suspension-requires c = record {
+pub serve_devices-requires : goal.serve_devices-requires
+serve_devices-requires c = record {
   sound = still_sound variable_pools c.serve_fixed_pool.new.self c.serve_variable_pool.new.self _ c.serve_variable_pool.ensures c.if-serve_variable_pool.false
       (still_sound fixed_pools c.args.self.now c.serve_fixed_pool.new.self _ c.serve_fixed_pool.ensures c.if-serve_fixed_pool.false c.requires.sound);
 }
 
 pub returns : goal.returns
 returns c =
-    suspension_last c.args.self.now c.serve_fixed_pool.new.self c.serve_variable_pool.new.self c.serve_suspension.new.self _ _ _ c.known_of_tasks.ensures.none c.serve_fixed_pool.ensures c.if-serve_fixed_pool.false c.serve_variable_pool.ensures c.if-serve_variable_pool.false
-    c.serve_suspension.ensures
+    device_last c.args.self.now c.serve_fixed_pool.new.self c.serve_variable_pool.new.self c.serve_devices.new.self _ _ _ c.serve_fixed_pool.ensures c.if-serve_fixed_pool.false c.serve_variable_pool.ensures c.if-serve_variable_pool.false
+    c.in_ok-served.ensures

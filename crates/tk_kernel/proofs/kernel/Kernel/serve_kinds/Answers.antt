@@ -20,4 +20,4 @@ serve_behind_boxes-requires c = record {
 pub returns : goal.returns
 returns c =
     mutex_last c.args.self.now c.serve_sem_flag.new.self c.serve_mailbox.new.self c.serve_behind_boxes.new.self _ _ _ c.serve_sem_flag.ensures c.if-serve_sem_flag.false c.serve_mailbox.ensures c.if-serve_mailbox.false
-    c.serve_behind_boxes.ensures
+    c.in_ok-served.ensures

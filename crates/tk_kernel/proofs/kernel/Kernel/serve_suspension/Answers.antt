@@ -1,9 +1,9 @@
 use Rattle.tk_kernel.specs.contracts.kernel.Kernel.{the_view}
-use Rattle.step_lemmas.proofs.Servings.{none_waits, one_waits}
+use Rattle.tk_kernel.proofs.Sound.{devices_fit, devices_wait}
 use Rattle.tk_kernel.proofs.kernel.Kernel.serve_suspension.Goals as goal
 
-pub returns-in-None : goal.returns-in-None
-returns-in-None c = none_waits (the_view c.self.inside) c.args.self.now _ c.self.view_is c.known_of_tasks.ensures.none c.waiter.ensures c.in-None.is
+pub serve_suspension-requires-clause-queued : goal.serve_suspension-requires-clause-queued
+serve_suspension-requires-clause-queued c = devices_wait (the_view c.self.inside) c.args.self.now c.self.view_is c.requires.sound
 
-pub returns-in-Some : goal.returns-in-Some
-returns-in-Some c = one_waits (the_view c.self.inside) c.args.self.now _ c.in-Some.task c.release.new.self _ c.self.view_is c.known_of_tasks.ensures.none c.waiter.ensures c.in-Some.is c.release.ensures c.plain.ensures
+pub serve_suspension-requires-clause-fit : goal.serve_suspension-requires-clause-fit
+serve_suspension-requires-clause-fit c = devices_fit (the_view c.self.inside) c.args.self.now c.self.view_is c.requires.sound

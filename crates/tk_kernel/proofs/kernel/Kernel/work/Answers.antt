@@ -25,7 +25,7 @@ do_turn-requires-clause-rest c = pending_at_rest c.args.script.now c.args.mode c
 
 pub follow-requires : goal.follow-requires
 follow-requires c = record {
-  sound = done_sound c.args.script.now c.args.mode c.args.step c.args.self.now c.make_pending.new.self c.do_turn.new.self c.turn-turn.result c.known_of_tasks.ensures.places c.known_of_tasks.ensures.whole c.known_of_tasks.ensures.none c.requires.sound
+  sound = done_sound c.args.script.now c.args.mode c.args.step c.args.self.now c.make_pending.new.self c.do_turn.new.self c.turn-turn.result c.known_of_tasks.ensures.places c.known_of_tasks.ensures.whole c.known_of_tasks.ensures.devices c.requires.sound
       c.in_ok-make_pending.ensures c.turn-turn.ensures c.in_ok-follows.ensures.state;
 }
 

@@ -1,0 +1,4 @@
+pub mod Cuts
+pub mod EntryLaws
+pub mod LineLaws
+pub mod Readings
