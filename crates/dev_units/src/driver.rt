@@ -2,7 +2,7 @@
 
 ghost use Rattle.std.specs.Prelude.{◌≡◌, ◌<◌, ◌+◌, ◌-◌, ◌^◌, true, IfOk, None, Some};
 ghost use Rattle.device_model.specs.Units.Function.{IsWhole};
-ghost use Rattle.driver_model.specs.Cores.{aborted, after_block, after_ending, after_message, begun, core_start, ending_out, has_work, is_empty_turn, is_idle, turned, worked};
+ghost use Rattle.driver_model.specs.Cores.{aborted, after_block, after_ending, after_message, begun, can_take, core_start, ending_out, has_work, is_empty_turn, is_idle, turned, worked};
 ghost use Rattle.dev_units.specs.Cores.{MayTake, has_number, holding};
 
 use crate::block_end::BlockEnd;
@@ -67,6 +67,29 @@ impl DriverCore {
         ensures { result ≡ is_idle self.now }
     {
         self.serving.is_none() && self.ready.is_none()
+    }
+
+    /// Whether the driver was stopped.
+    pub fn is_stopped(&self) -> bool
+        ensures { result ≡ self.now.stopped }
+    {
+        self.stopped
+    }
+
+    /// Whether the driver takes a message now: none after a Stop, and a Serve only where it has no request and no ending that is
+    /// ready.
+    #[tactic(auto, unfolding(driver_model::specs::Cores::can_take))]
+    pub fn can_take(&self, m: &Message) -> bool
+        ensures { result ≡ can_take self.now m.now }
+    {
+        if self.stopped {
+            return false;
+        }
+        match m {
+            Message::Serve { .. } => self.is_idle(),
+            Message::Abort { .. } => true,
+            Message::Stop { .. } => true,
+        }
     }
 
     /// How many messages the driver has taken.
