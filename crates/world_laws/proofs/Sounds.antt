@@ -10,11 +10,50 @@ use Rattle.device_model.specs.Units.Blocks.{Partial, blocks}
 use Rattle.device_model.specs.Devices.Tables.{Given, Link}
 use Rattle.driver_model.specs.Cores.{Core}
 use Rattle.world_model.specs.Roads.{Road}
-use Rattle.world_laws.specs.Sound.{AbortsFit, AreSound, Each, HasEnded, IsGiven, IsMade, IsOwn, IsRight, IsSound, aborts_in, one_if, serves_in, stops_in, untaken}
+use Rattle.world_laws.specs.Sound.{AbortsFit, Each, HasEnded, IsGiven, IsMade, IsOwn, IsRight, aborts_in, one_if, serves_in, stops_in, untaken}
 use Rattle.world_laws.proofs.Places.{AtReady, InHand, IsBefore, IsSent, Nowhere, OnWay, Place, Stands, at_ready, in_hand, nowhere, old_aborts, on_way, own_aborts, sent, stops}
 use Rattle.world_laws.proofs.Roads.{side_of, way_of}
 use Rattle.world_laws.proofs.Meets.{Meets}
 use Rattle.world_laws.proofs.Arrivals.{made_fit}
+
+-- ---- all that the law says of a road
+
+-- a device, by whether the run is over, its number, what the kernel keeps of it, its driver, the endings in the outbox, and the
+-- messages that its driver hasn't taken
+pub record IsSound (over : Bool) (d : ℕ) (link : Link) (core : Core) (out : List Ending) (way : List Message) : Type 0 where
+  -- the driver is that of this device
+  pub device : core.device ≡ d
+  pub of_kind : core.kind ≡ link.kind
+  -- the request that is with the driver stands in exactly one place, and where there is none all are empty
+  pub one_place : serves_in way + (one_if core.given + (one_if core.ready + length out)) ≡ one_if link.given
+  -- each message is of this device, the request of a Serve is that one, and whole, and a Stop comes only once the run is over
+  pub right : Each (IsRight over d link) way
+  -- each Abort was asked of that request, or names one that has ended and stands before the Serve
+  pub aborts : AbortsFit link false way
+  -- what the driver works on, and each ending that it has made, is of that request, and the endings are fit
+  pub works_on : (request : Request) → core.given ≡ Some request → IsGiven link request
+  pub ready : (ending : Ending) → core.ready ≡ Some ending → IsMade link core ending
+  pub sent : Each (IsMade link core) out
+  -- without a request, and while that is on the way, the driver's store is the kernel's
+  pub same_store : core.given ≡ None → core.ready ≡ None → out ≡ [] → core.store ≡ link.store
+  -- and while the driver works on it, that with the blocks that were done
+  pub store_so_far : (request : Request) → core.given ≡ Some request → core.store ≡ (blocks link.kind link.store request core.blocks).store
+  -- it was stopped only once the run is over
+  pub stopped : core.stopped ≡ true → over ≡ true
+  -- at most two Aborts, of which one is old, one Serve and one Stop are on the way
+  pub few_aborts : aborts_in way ≤ one_if link.given + 1
+  pub few_serves : serves_in way ≤ 1
+  pub few_stops : stops_in way ≤ 1
+  -- so they are four at most, and fewer until the run is over
+  pub few : length way ≤ 4
+  pub fewer : over ≡ false → length way < 4
+
+-- link and road of a device: both are there, or none
+abbrev pub AreSound : Bool → ℕ → Option Link → Option Road → Type 0
+AreSound over d None None = Unit {0}
+AreSound over d (Some link) None = ⊥
+AreSound over d None (Some road) = ⊥
+AreSound over d (Some link) (Some road) = IsSound over d link road.core road.outbox (untaken road)
 
 -- ---- what is on the way, piece by piece
 

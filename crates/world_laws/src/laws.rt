@@ -1,6 +1,6 @@
 //! The law of the world, the contract of a function that does nothing.
 
-ghost use Rattle.std.specs.Prelude.{◌≡◌, ◌⊎◌, ℕ, ℤ, true, false, List, ◌∷◌, Some, None};
+ghost use Rattle.std.specs.Prelude.{◌≡◌, ◌⊎◌, ℕ, ℤ, true, false, List, [], ◌∷◌, Some, None};
 ghost use Rattle.std.specs.Int.{is_negative};
 ghost use Rattle.std.specs.Option.{is_some};
 ghost use Rattle.tk_types.specs.declared.answer.Answer.{Answer};
@@ -12,6 +12,7 @@ ghost use Rattle.tk_types.specs.declared.script.Script.{Script};
 ghost use Rattle.kernel_model.specs.Words.Checks.{natural};
 ghost use Rattle.kernel_model.specs.Words.Orders.{entry};
 ghost use Rattle.device_model.specs.declared.messages.Ending.{Ending};
+ghost use Rattle.device_model.specs.declared.messages.Request.{Request};
 ghost use Rattle.device_model.specs.Devices.Calls.{device_call};
 ghost use Rattle.device_model.specs.Devices.Endings.{DevParts};
 ghost use Rattle.device_model.specs.Devices.Servings.{serve_endings};
@@ -22,16 +23,18 @@ ghost use Rattle.machine_model.specs.Events.Arrivals.{arrived};
 ghost use Rattle.world_model.specs.Roads.{Road, roads_from};
 ghost use Rattle.world_model.specs.Worlds.{Step, all_stepped, devices_of, road_at, stepped, world_after};
 ghost use Rattle.world_laws.specs.Requests.{HandsOutOwn, IsAbortAsked};
-ghost use Rattle.world_laws.specs.Sound.{AreSound};
-ghost use Rattle.world_laws.specs.Words.{Everywhere};
+ghost use Rattle.world_laws.specs.Sound.{AbortsFit, AreFew, Each, IsMade, IsRight, WorksOn, one_if, places, untaken};
+ghost use Rattle.world_laws.specs.Words.{Everywhere, OnEachRoad};
 
 /// Kernel and drivers, in whatever order they do their steps, agree on every request. In every world:
 ///
-/// each device of the script has a road and a driver (`there`), which are sound (`roads`): at most one request is with the driver, and it stands in
-/// exactly one place; each Abort names that request and was asked, or it names one that has ended and stands before the next
-/// Serve; endings that are ready or sent are fit; the driver's store is the kernel's, with what was done of the request since; a
-/// Stop is given only once the machine is over; and of messages that the driver hasn't taken there are fewer than four, or four
-/// with the Stop.
+/// each device of the script has a road and a driver (`there`, `linked`). At most one request is with the driver, and it stands in
+/// exactly one place (`one_place`): as a Serve that wasn't taken, which is whole (`messages`), as what the driver works on, as an
+/// ending that is ready, or in the outbox. Each Abort names that request and was asked, or it names one that has ended and stands
+/// before the next Serve (`aborts`). While the driver works on the request its store is the kernel's with the blocks that were
+/// done (`working`); an ending that is ready or sent is fit, and the store is then what the unit leaves that ends so (`ready`,
+/// `sent`); else the store is the kernel's (`store`). A Stop is given only once the run is over (`messages`, `stopped`), and of
+/// messages that weren't taken there are fewer than four until then (`few`).
 ///
 /// An ending that comes out of an outbox is always fit (`fit`). No two requests have one serial (`apart`); one that has ended
 /// stays just as it ended, while it is there (`ended`), and one that was let go never comes back (`gone`). It was completed where
@@ -43,9 +46,18 @@ ghost use Rattle.world_laws.specs.Words.{Everywhere};
 /// `tk_swri_dev` that answer at once were refused, or hand out the ending of the request that they made, which was for the event
 /// buffer (`own_read`, `own_write`). And an ending is handed out once, since the request is let go with it (`once`).
 pub fn world()
-    ensures roads { Everywhere (λ w. (d : ℕ) → AreSound (is_some w.over) d (link_at (devices_of w) d) (road_at w d)) }
     ensures there { (script : Script) (mode : Mode) (budget : ℕ) (steps : List Step) (d : ℕ) →
         is_some (road_at (world_after script mode budget steps) d) ≡ is_some (entry (None ∷ roads_from 1 script.devices) d) }
+    ensures linked { Everywhere (λ w. (d : ℕ) → is_some (link_at (devices_of w) d) ≡ is_some (road_at w d)) }
+    ensures one_place { OnEachRoad (λ over d link road. places road ≡ one_if link.given) }
+    ensures messages { OnEachRoad (λ over d link road. Each (IsRight over d link) (untaken road)) }
+    ensures aborts { OnEachRoad (λ over d link road. AbortsFit link false (untaken road)) }
+    ensures few { OnEachRoad (λ over d link road. AreFew over link (untaken road)) }
+    ensures working { OnEachRoad (λ over d link road. (request : Request) → road.core.given ≡ Some request → WorksOn link road.core request) }
+    ensures ready { OnEachRoad (λ over d link road. (ending : Ending) → road.core.ready ≡ Some ending → IsMade link road.core ending) }
+    ensures sent { OnEachRoad (λ over d link road. Each (IsMade link road.core) road.outbox) }
+    ensures store { OnEachRoad (λ over d link road. road.core.given ≡ None → road.core.ready ≡ None → road.outbox ≡ [] → road.core.store ≡ link.store) }
+    ensures stopped { OnEachRoad (λ over d link road. road.core.stopped ≡ true → over ≡ true) }
     ensures fit { Everywhere (λ w. (d : ℕ) (road : Road) (ending : Ending) (later : List Ending) → w.over ≡ None → road_at w d ≡ Some road →
         road.outbox ≡ ending ∷ later → is_some (arrived w.script w.mode w.state ending) ≡ true) }
     ensures apart { Everywhere (λ w. AreApart (devices_of w)) }
