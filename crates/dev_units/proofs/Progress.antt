@@ -7,11 +7,11 @@ use Rattle.tk_types.specs.declared.error_code.Er.TheVariants as er
 use Rattle.tk_types.specs.declared.script.Kind.{Kind}
 use Rattle.device_model.specs.declared.messages.Request.{Request}
 use Rattle.device_model.specs.RoomyBytes.{RoomyBytes}
-use Rattle.device_model.specs.Units.Stores.{Store, is_log, is_spoilt}
-use Rattle.device_model.specs.Units.Function.{IsWhole, Served, appends, available, begin, block_size, count_of, cut, cut_begun, error_of, may_cut, moved, size_of, unit}
-use Rattle.device_model.specs.Units.Blocks.{Partial, block, blocks, count_at, is_last}
-use Rattle.unit_laws.proofs.Blocks.{blocks_cut, blocks_part, blocks_whole, last_known, nothing_written, whole_of}
-use Rattle.unit_laws.proofs.Counts.{count_same}
+use Rattle.device_model.specs.Units.Stores.{Store, is_log}
+use Rattle.device_model.specs.Units.Function.{IsWhole, Served, begin, block_size, count_of, cut, cut_begun, error_of, may_cut, size_of, unit}
+use Rattle.device_model.specs.Units.Blocks.{Partial, block, blocks, is_last}
+use Rattle.unit_laws.proofs.Blocks.{blocks_cut, blocks_whole, last_known, nothing_written, whole_of}
+use Rattle.driver_laws.proofs.Lasts as lasts
 use Rattle.dev_units.specs.declared.block_end.BlockEnd.{BlockEnd}
 use Rattle.dev_units.specs.declared.block_end.BlockEnd.TheVariants.{Ended, More}
 use Rattle.driver_model.specs.Ends.{error_at, size_at}
@@ -46,59 +46,23 @@ pub reached : (kind : Kind) (found store : Store) (request : Request) (k : ℕ) 
 unfolding may_cut
 reached kind found store request k content way = may_reach (block_size * k) (count_of kind (begin found request) request) way.may_cut
 
--- the store is that of the bytes that were moved
-store_is : (kind : Kind) (found store : Store) (request : Request) (k : ℕ) (content : List ℕ) → IsWhole request → IsUnderWay kind found request k store content →
-    store ≡ moved kind (begin found request) request (block_size * k)
-store_is kind found store request k content whole way =
-    ap (λ (p : Partial). p.store) (way.served ∙ blocks_part kind found request k whole (reached kind found store request k content way))
-
-moved_none_by : (kind : Kind) (begun : Store) (id number : ℕ) (write : Bool) (start size : ℕ) (bytes : RoomyBytes) →
-    let request : Request = record { id = id; number = number; write = write; start = start; size = size; bytes = bytes } in
-    (moved kind begun request 0).bytes ≡ begun.bytes
-moved_none_by kind begun id number true start size bytes = nothing_written (is_log kind) begun.bytes start
-moved_none_by kind begun id number false start size bytes = refl
-
-moved_begun_by : (kind : Kind) (begun : Store) (id number : ℕ) (write : Bool) (start size : ℕ) (bytes : RoomyBytes) (m : ℕ) →
-    let request : Request = record { id = id; number = number; write = write; start = start; size = size; bytes = bytes } in
-    (moved kind begun request m).begun ≡ begun.begun
-moved_begun_by kind begun id number true start size bytes m = refl
-moved_begun_by kind begun id number false start size bytes m = refl
-
-count_is : (kind : Kind) (found store : Store) (request : Request) (k : ℕ) (content : List ℕ) → IsWhole request → IsUnderWay kind found request k store content →
-    count_at kind store request (block_size * k) ≡ count_of kind (begin found request) request
-count_is kind found store request k content whole way =
-    ap (λ (s : Store). count_at kind s request (block_size * k)) (store_is kind found store request k content whole way)
-    ∙ count_same kind (begin found request) request (block_size * k) whole (reached kind found store request k content way)
-
-none_done : (none : Bool) (count k : ℕ) → none ≡ true → 64 * k ≤ (if none then 0 else count) → k ≡ 0
-none_done true count k is most = omega (arith, most)
-none_done false count k is most = absurd (cc is)
-
-sizes : (none : Bool) (there now count counted : ℕ) → (none ≡ true → now ≡ there) → counted ≡ count → (if none then now else counted) ≡ (if none then there else count)
-sizes true there now count counted same is = same refl
-sizes false there now count counted same is = is
+-- the store is that of the blocks that were done
+store_is : (kind : Kind) (found store : Store) (request : Request) (k : ℕ) (content : List ℕ) → IsUnderWay kind found request k store content → store ≡ (blocks kind found request k).store
+store_is kind found store request k content way = ap (λ (p : Partial). p.store) way.served
 
 -- the size that a block answers is that of the request
 size_is : (kind : Kind) (found store : Store) (request : Request) (k : ℕ) (content : List ℕ) → IsWhole request → IsUnderWay kind found request k store content →
     size_at kind store request (block_size * k) ≡ size_of kind (begin found request) request
 size_is kind found store request k content whole way =
-    sizes (request.size == 0) (available kind (begin found request).bytes request) (available kind store.bytes request)
-    (count_of kind (begin found request) request) (count_at kind store request (block_size * k))
-    (λ none. ap (λ (b : List ℕ). available kind b request)
-    (ap (λ (s : Store). s.bytes) (store_is kind found store request k content whole way)
-    ∙ (ap (λ (m : ℕ). (moved kind (begin found request) request (block_size * m)).bytes) (none_done (request.size == 0) _ k none (reached kind found store request k content way))
-    ∙ moved_none_by kind (begin found request) request.id request.number request.write request.start request.size request.bytes)))
-    (count_is kind found store request k content whole way)
+    ap (λ (s : Store). size_at kind s request (block_size * k)) (store_is kind found store request k content way)
+    ∙ lasts.size_is kind found request k whole (reached kind found store request k content way)
 
 -- and so is the error
 error_is : (kind : Kind) (found store : Store) (request : Request) (k : ℕ) (content : List ℕ) → IsWhole request → IsUnderWay kind found request k store content →
     error_at kind store request (block_size * k) ≡ error_of kind (begin found request) request
 error_is kind found store request k content whole way =
-    ap (λ (count : ℕ). if request.size == 0 then er.Ok else (if count == 0 then (if is_spoilt kind store.begun || appends kind request then er.Io else er.Par) else er.Ok))
-    (count_is kind found store request k content whole way)
-    ∙ ap (λ (begun : ℕ). if request.size == 0 then er.Ok else (if count_of kind (begin found request) request == 0 then (if is_spoilt kind begun || appends kind request then er.Io else er.Par) else er.Ok))
-    (ap (λ (s : Store). s.begun) (store_is kind found store request k content whole way)
-    ∙ moved_begun_by kind (begin found request) request.id request.number request.write request.start request.size request.bytes (block_size * k))
+    ap (λ (s : Store). error_at kind s request (block_size * k)) (store_is kind found store request k content way)
+    ∙ lasts.error_is kind found request k whole (reached kind found store request k content way)
 
 -- ---- one block more
 

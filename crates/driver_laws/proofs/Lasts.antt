@@ -54,7 +54,8 @@ sizes : (none : Bool) (there now count counted : ℕ) → (none ≡ true → now
 sizes true there now count counted same is = same refl
 sizes false there now count counted same is = is
 
-size_is : (kind : Kind) (found : Store) (request : Request) (k : ℕ) → IsWhole request → Reached kind found request k →
+-- the size that a block answers is that of the request
+pub size_is : (kind : Kind) (found : Store) (request : Request) (k : ℕ) → IsWhole request → Reached kind found request k →
     size_at kind (store_after kind found request k) request (block_size * k) ≡ size_of kind (begin found request) request
 size_is kind found request k whole done =
     sizes (request.size == 0) (available kind (begin found request).bytes request) (available kind (store_after kind found request k).bytes request)
@@ -65,7 +66,8 @@ size_is kind found request k whole done =
     ∙ moved_none_by kind (begin found request) request.id request.number request.write request.start request.size request.bytes)))
     (count_is kind found request k whole done)
 
-error_is : (kind : Kind) (found : Store) (request : Request) (k : ℕ) → IsWhole request → Reached kind found request k →
+-- and so is the error
+pub error_is : (kind : Kind) (found : Store) (request : Request) (k : ℕ) → IsWhole request → Reached kind found request k →
     error_at kind (store_after kind found request k) request (block_size * k) ≡ error_of kind (begin found request) request
 error_is kind found request k whole done =
     ap (λ (count : ℕ). if request.size == 0 then er.Ok else (if count == 0 then (if is_spoilt kind (store_after kind found request k).begun || appends kind request then er.Io else er.Par) else er.Ok))
