@@ -16,6 +16,7 @@ use Rattle.device_model.specs.declared.rows.Life.TheVariants as lives
 use Rattle.world_model.specs.Worlds as steps
 use Rattle.world_model.specs.Worlds.{Step, world_after}
 use Rattle.world_runs.specs.Seen.{Abort, Seen, Serve, seen}
+-- the words of the definitions
 use Rattle.tk_types.specs.CallNames.{text_of, form_of, named}
 use Rattle.tk_types.specs.Calls.{made, task_call_name, sem_flag_call_name, mutex_call_name, mail_call_name, pool_call_name, time_call_name, context_call_name, device_call_name, hook_call_name, name_of}
 use Rattle.tk_types.specs.Codes.{code_of, error_text, coded, error_named}
