@@ -112,6 +112,7 @@ entered_steps script mode st entry event comes = at_place (entry.place == st.ste
     arrives : (named : Option Ending) → arrived_if script mode st named ≡ Some event → event.state.steps ≡ st.steps
     arrives None e = absurd (cc)
     arrives (Some ending) e = arrived_steps script mode st ending event e
+
     at_place : (here : Bool) → cond here (arrived_if script mode st (named_ending st entry)) None ≡ Some event → event.state.steps ≡ st.steps
     at_place true e = arrives (named_ending st entry) e
     at_place false e = absurd (cc)

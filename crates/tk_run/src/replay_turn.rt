@@ -132,11 +132,7 @@ fn ended(machine: &mut Machine, last: LastLine) -> Result<FedTurn, OutOfMemory>
 }
 
 /// The turn that takes the next entry, where there is one.
-fn feed(
-    machine: &mut Machine,
-    left: &[Entry],
-    number: u32,
-) -> Result<FedTurn, OutOfMemory>
+fn feed(machine: &mut Machine, left: &[Entry], number: u32) -> Result<FedTurn, OutOfMemory>
     requires ready { IsReady machine.old }
     ensures { IfOk result (TurnGives machine.old machine.new (fed_by machine.old number left.now)) }
 {
@@ -152,11 +148,7 @@ fn feed(
 }
 
 /// A turn in free mode: an entry whose place has come is taken before the step.
-fn free_turn(
-    machine: &mut Machine,
-    left: &[Entry],
-    number: u32,
-) -> Result<FedTurn, OutOfMemory>
+fn free_turn(machine: &mut Machine, left: &[Entry], number: u32) -> Result<FedTurn, OutOfMemory>
     requires ready { IsReady machine.old }
     requires mode { machine.old.mode ≡ modes.Free }
     ensures { IfOk result (TurnGives machine.old machine.new (next_course machine.old number left.now)) }
@@ -175,11 +167,7 @@ fn free_turn(
 }
 
 /// A turn in sync mode: an entry is taken only where an ending is needed.
-fn sync_turn(
-    machine: &mut Machine,
-    left: &[Entry],
-    number: u32,
-) -> Result<FedTurn, OutOfMemory>
+fn sync_turn(machine: &mut Machine, left: &[Entry], number: u32) -> Result<FedTurn, OutOfMemory>
     requires ready { IsReady machine.old }
     requires mode { machine.old.mode ≡ modes.Sync }
     ensures { IfOk result (TurnGives machine.old machine.new (next_course machine.old number left.now)) }

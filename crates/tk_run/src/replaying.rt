@@ -46,22 +46,14 @@ fn replay_reading<K: Sink>(
         → IsCertain (session_outcome mode budget reading).status (K.faulted sink.old) (K.faulted sink.new) result }
 {
     match reading {
-        SessionReading::Session(session) => {
-            replay_script(alloc, session, mode, budget, sink)
-        }
+        SessionReading::Session(session) => { replay_script(alloc, session, mode, budget, sink) }
         SessionReading::Refused { line, why } => refuse(alloc, line, why, sink),
     }
 }
 
 /// Runs the session that a text is, or writes why it is refused.
 #[tactic(auto, unfolding(crate::specs::Outcomes::replay_outcome))]
-fn replay_text<K: Sink>(
-    alloc: Global,
-    text: &[u8],
-    mode: Mode,
-    budget: u32,
-    sink: &mut K,
-) -> Status
+fn replay_text<K: Sink>(alloc: Global, text: &[u8], mode: Mode, budget: u32, sink: &mut K) -> Status
     requires steps { IsBudget budget }
     ensures outcome { OutcomeAnswers (replay_outcome mode budget text.now) (K.held sink.old) (K.held sink.new) result }
     ensures past_session { IsPastSession result }

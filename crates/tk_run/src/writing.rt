@@ -31,7 +31,11 @@ pub(crate) fn failure_status(failure: Unwritten) -> Status
 }
 
 /// Writes lines, by way of `text`, whose room serves again and again.
-pub(crate) fn write_lines<K: Sink>(lines: &[Line], text: &mut Vec<u8>, sink: &mut K) -> Result<(), Unwritten>
+pub(crate) fn write_lines<K: Sink>(
+    lines: &[Line],
+    text: &mut Vec<u8>,
+    sink: &mut K,
+) -> Result<(), Unwritten>
     ensures answer { WriteAnswers (K.held sink.old) (K.held sink.new) (text_of_lines lines.now) result }
     ensures write_fault { result ≡ Err Unwritten.WriteFault → Rose (K.faulted sink.old) (K.faulted sink.new) }
     ensures unwritten { result ≡ Err Unwritten.NoMemory → sink.new ≡ sink.old }

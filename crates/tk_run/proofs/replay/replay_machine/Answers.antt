@@ -78,9 +78,9 @@ turns-preserved g c =
     let sure = rw c.deref-in-turns.ensures.value at c.in_default-write_lines.ensures.certain in
     elim c.match-turn.branch [
       | in-Fed w ↦ rw w.taken-is
-      (feeds_on m _ _ c.in-Ok.turn c.turns.invariant (omega arith) gives w.in-Fed.is (rw c.deref-in-turns.ensures.value at c.in_default-write_lines.ensures.answer) c.in_default-write_lines.ensures.faults_stay
-      (λ fits. let s = sure fits in (s.1, s.2)))
+          (feeds_on m _ _ c.in-Ok.turn c.turns.invariant (omega arith) gives w.in-Fed.is (rw c.deref-in-turns.ensures.value at c.in_default-write_lines.ensures.answer) c.in_default-write_lines.ensures.faults_stay
+          (λ fits. let s = sure fits in (s.1, s.2)))
       | in-Went w ↦ rw w.taken-is
-      (goes_on m _ _ c.in-Ok.turn c.turns.invariant (omega arith) gives w.in-Went.is (rw c.deref-in-turns.ensures.value at c.in_default-write_lines.ensures.answer) c.in_default-write_lines.ensures.faults_stay
-      (λ fits. let s = sure fits in (s.1, s.2)))
+          (goes_on m _ _ c.in-Ok.turn c.turns.invariant (omega arith) gives w.in-Went.is (rw c.deref-in-turns.ensures.value at c.in_default-write_lines.ensures.answer) c.in_default-write_lines.ensures.faults_stay
+          (λ fits. let s = sure fits in (s.1, s.2)))
     ]
