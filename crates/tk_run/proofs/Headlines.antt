@@ -16,14 +16,14 @@ use Rattle.tk_run.proofs.Readings.{all_spelled, spelled}
 
 -- ---- of `run`
 
-done_last : (last : LastLine) → status_of_last last ≡ statuses.Done → IsDone last
+pub done_last : (last : LastLine) → status_of_last last ≡ statuses.Done → IsDone last
 done_last lasts.Idle is = inl refl
 done_last lasts.Halt is = inr refl
 done_last lasts.Budget is = absurd (cc)
 done_last lasts.Starved is = absurd (cc)
 done_last (lasts.Unfit entry) is = absurd (cc)
 
-budget_last : (last : LastLine) → status_of_last last ≡ statuses.Budget → last ≡ lasts.Budget
+pub budget_last : (last : LastLine) → status_of_last last ≡ statuses.Budget → last ≡ lasts.Budget
 budget_last lasts.Idle is = absurd (cc)
 budget_last lasts.Halt is = absurd (cc)
 budget_last lasts.Budget is = refl

@@ -1,6 +1,13 @@
 pub mod Budgets
 pub mod Built
+pub mod Devices
+pub mod FedTraces
+pub mod FedTurns
 pub mod Headlines
 pub mod Readings
+pub mod Replays
 pub mod Runs
+pub mod SessionHeadlines
+pub mod SessionReadings
+pub mod StepFacts
 pub mod Told

@@ -34,7 +34,7 @@ turned next st (Needs waiting) = record { lines = []; last = last_of ends.Idle }
 turned next st Ends = record { lines = lines.End st.steps (last_of ends.Idle) ∷ []; last = last_of ends.Idle }
 
 -- lines before the last one of a trace
-before_last : (front : List Line) (run : Trace) → writing (record run { lines = front ++ run.lines }) ≡ behind_lines front (writing run)
+pub before_last : (front : List Line) (run : Trace) → writing (record run { lines = front ++ run.lines }) ≡ behind_lines front (writing run)
 before_last front run = ap (λ (all : List Line). record { lines = all; last = run.last }) (append_assoc front run.lines (lines.End run.steps run.last ∷ []))
 
 free_turned : (next : Rest) (st : State) (pace : Pace) → NeedsNone pace → writing (free_pace next st 1 [] pace) ≡ turned next st pace

@@ -8,11 +8,13 @@ use Rattle.tk_ports.specs.Streams.{Appends, AppendsFront}
 use Rattle.machine_model.specs.Runs.Trace.{lines_of, trace}
 use Rattle.tk_model.specs.LineText.{text_of_lines}
 use Rattle.tk_run.specs.declared.command.Command.{Command}
-use Rattle.tk_run.specs.declared.command.Command.TheVariants.{Run, Check}
+use Rattle.tk_run.specs.declared.command.Command.TheVariants.{Run, Replay, Check}
 use Rattle.tk_run.specs.declared.status.Status.{Status}
 use Rattle.tk_run.specs.declared.status.Status.TheVariants as statuses
 use Rattle.tk_model.specs.ScriptText.{Spells, printed}
-use Rattle.tk_run.specs.Outcomes.{Outcome}
+use Rattle.tk_run.specs.Outcomes.{Outcome, session_trace}
+use Rattle.tk_session.specs.Spelling.{SpellsSession}
+use Rattle.tk_session.specs.declared.session.Session.{Session}
 
 -- the status is the outcome's and all its bytes were taken, unless a stream failed or memory ran out
 abbrev pub OutcomeAnswers : Outcome → Option (List ℕ) → Option (List ℕ) → Status → Type 0
@@ -48,14 +50,23 @@ WritesTrace mode budget input old new IsEnd =
 abbrev pub WritesPrinted : List ℕ → Option (List ℕ) → Option (List ℕ) → Type 0
 WritesPrinted input old new = (script : Script) × Spells input script × Appends old new (printed script)
 
+-- the input spells a session, and the sink took the text of its trace, whose last line is one of these
+abbrev pub WritesSession : Mode → ℕ → List ℕ → Option (List ℕ) → Option (List ℕ) → (LastLine → Type 0) → Type 0
+WritesSession mode budget input old new IsEnd =
+    (session : Session) × SpellsSession input session × IsEnd (session_trace mode budget session).last × Appends old new (text_of_lines (lines_of (session_trace mode budget session)))
+
 abbrev pub IsDone : LastLine → Type 0
 IsDone last = (last ≡ lasts.Idle) ⊎ (last ≡ lasts.Halt)
 
--- what stands behind `Done` and `Budget`, said by what a text spells and not by how it is read; no command that there is
--- answers that an ending is missing or isn't fit
+-- what stands behind the status of a run, said by what a text spells and not by how it is read; that an ending is missing or
+-- isn't fit is answered by a replay alone
 abbrev pub HeadlineAnswers : Option Command → List ℕ → Option (List ℕ) → Option (List ℕ) → Status → Type 0
 HeadlineAnswers (Some (Run mode budget)) input old new statuses.Done = WritesTrace mode budget input old new IsDone
 HeadlineAnswers (Some (Run mode budget)) input old new statuses.Budget = WritesTrace mode budget input old new (λ last. last ≡ lasts.Budget)
+HeadlineAnswers (Some (Replay mode budget)) input old new statuses.Done = WritesSession mode budget input old new IsDone
+HeadlineAnswers (Some (Replay mode budget)) input old new statuses.Budget = WritesSession mode budget input old new (λ last. last ≡ lasts.Budget)
+HeadlineAnswers (Some (Replay mode budget)) input old new statuses.Starved = WritesSession mode budget input old new (λ last. last ≡ lasts.Starved)
+HeadlineAnswers (Some (Replay mode budget)) input old new (statuses.Unfit entry) = WritesSession mode budget input old new (λ last. last ≡ lasts.Unfit entry)
 HeadlineAnswers (Some Check) input old new statuses.Done = WritesPrinted input old new
 HeadlineAnswers (Some Check) input old new statuses.Budget = ⊥
 HeadlineAnswers None input old new statuses.Done = ⊥
@@ -75,3 +86,9 @@ IsPastReading statuses.Usage = ⊥
 IsPastReading statuses.Starved = ⊥
 IsPastReading (statuses.Unfit entry) = ⊥
 IsPastReading _ = Unit {0}
+
+-- the answers that may come once the input was read, where the endings of a journal are fed
+abbrev pub IsPastSession : Status → Type 0
+IsPastSession statuses.ReadFault = ⊥
+IsPastSession statuses.Usage = ⊥
+IsPastSession _ = Unit {0}

@@ -1,9 +1,12 @@
 -- The words of the program, and the command that they are.
 use Rattle.std.specs.Prelude.{ℕ, ◌≤◌, nat_le, ◌&&◌, if◌then◌else◌, List, [], ◌∷◌, Option, Some, None, codes, bytes_eq, option_map}
+use Rattle.tk_types.specs.declared.run.Mode.{Mode}
 use Rattle.tk_types.specs.declared.run.Mode.TheVariants.{Free, Sync}
 use Rattle.tk_model.specs.Decimals.{natural_at}
+use Rattle.tk_text.specs.Sessions.{script_limit, session_limit}
 use Rattle.tk_run.specs.declared.command.Command.{Command}
-use Rattle.tk_run.specs.declared.command.Command.TheVariants.{Run, Check}
+use Rattle.tk_run.specs.declared.command.Command.TheVariants.{Run, Replay, Check}
+use Rattle.tk_run.specs.declared.command.Options.{Options}
 
 -- the most steps that a run may be given
 abbrev pub most_steps : ℕ
@@ -24,20 +27,30 @@ budget_of (Some number) = if nat_le 1 number && nat_le number most_steps then So
 unfoldable pub budget_at : List ℕ → Option ℕ
 budget_at word = budget_of (natural_at word)
 
--- the budget of the words behind `run`: none, or `--budget` and a number
+-- the budget of the words behind `run` or `replay`: none, or `--budget` and a number
 unfoldable pub budget_in : List (List ℕ) → Option ℕ
 budget_in [] = Some default_budget
 budget_in (option ∷ []) = None
 budget_in (option ∷ number ∷ []) = if bytes_eq option (codes "--budget") then budget_at number else None
 budget_in (option ∷ number ∷ other ∷ words) = None
 
--- a run in the mode of the words behind `run`: `--sync` comes first, where it is there
-unfoldable pub run_of : List (List ℕ) → Option Command
-run_of [] = Some (Run Free default_budget)
-run_of (option ∷ words) =
+abbrev pub options : Mode → ℕ → Options
+options mode budget = record { mode = mode; budget = budget }
+
+-- the mode and the budget of the words behind `run` or `replay`: `--sync` comes first, where it is there
+unfoldable pub options_of : List (List ℕ) → Option Options
+options_of [] = Some (options Free default_budget)
+options_of (option ∷ words) =
     if bytes_eq option (codes "--sync")
-    then option_map (Run Sync) (budget_in words)
-    else option_map (Run Free) (budget_in (option ∷ words))
+    then option_map (options Sync) (budget_in words)
+    else option_map (options Free) (budget_in (option ∷ words))
+
+-- a run, and a run that is fed with a journal
+abbrev pub run_with : Options → Command
+run_with options = Run options.mode options.budget
+
+abbrev pub replay_with : Options → Command
+replay_with options = Replay options.mode options.budget
 
 -- a command that takes no word more
 abbrev pub alone : Command → List (List ℕ) → Option Command
@@ -48,11 +61,21 @@ alone command (word ∷ words) = None
 unfoldable pub command_of : List (List ℕ) → Option Command
 command_of [] = None
 command_of (name ∷ words) =
-    if bytes_eq name (codes "run") then run_of words
+    if bytes_eq name (codes "run") then option_map run_with (options_of words)
+    else if bytes_eq name (codes "replay") then option_map replay_with (options_of words)
     else if bytes_eq name (codes "check") then alone Check words
     else None
 
 -- what holds of the numbers of a command
 abbrev pub IsCommand : Command → Type 0
 IsCommand (Run mode budget) = IsBudget budget
+IsCommand (Replay mode budget) = IsBudget budget
 IsCommand Check = Unit {0}
+
+abbrev pub IsOptions : Options → Type 0
+IsOptions options = IsBudget options.budget
+
+-- the most bytes of a command's input: those of a session, or of a script
+abbrev pub input_limit : Option Command → ℕ
+input_limit (Some (Replay mode budget)) = session_limit
+input_limit _ = script_limit

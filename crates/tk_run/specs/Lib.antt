@@ -3,3 +3,5 @@ pub mod Readings
 pub mod Outcomes
 pub mod Answers
 pub mod Runs
+pub mod FedTurns
+pub mod Replays

@@ -12,11 +12,14 @@ use Rattle.tk_model.specs.ScriptText.{printed}
 use Rattle.machine_model.specs.Runs.Trace.{Trace, lines_of, trace}
 use Rattle.tk_model.specs.LineText.{text_of_lines}
 use Rattle.tk_run.specs.declared.command.Command.{Command}
-use Rattle.tk_run.specs.declared.command.Command.TheVariants.{Run, Check}
+use Rattle.tk_run.specs.declared.command.Command.TheVariants.{Run, Replay, Check}
 use Rattle.tk_run.specs.declared.status.Status.{Status}
 use Rattle.tk_run.specs.declared.status.Status.TheVariants as statuses
 use Rattle.tk_run.specs.Commands.{command_of}
-use Rattle.tk_run.specs.Readings.{reading_of, reading_all}
+use Rattle.tk_run.specs.Readings.{reading_all, reading_of, session_of}
+use Rattle.tk_session.specs.declared.session.Session.{Session}
+use Rattle.tk_session.specs.declared.session.SessionReading.{SessionReading}
+use Rattle.tk_session.specs.declared.session.SessionReading.TheVariants as sessions
 
 pub record Outcome : Type 0 where
   pub status : Status
@@ -60,6 +63,18 @@ reading_outcome mode budget (readings.Refused line why) = refusal_outcome line w
 unfoldable pub run_outcome : Mode → ℕ → List ℕ → Outcome
 run_outcome mode budget input = reading_outcome mode budget (reading_of input)
 
+-- the trace of a session: the run of its script, fed with the endings of its journal
+abbrev pub session_trace : Mode → ℕ → Session → Trace
+session_trace mode budget session = trace session.script mode budget session.journal
+
+-- the trace of the session that was read, or its refusal
+abbrev pub session_outcome : Mode → ℕ → SessionReading → Outcome
+session_outcome mode budget (sessions.Session session) = trace_outcome (session_trace mode budget session)
+session_outcome mode budget (sessions.Refused line why) = refusal_outcome line why
+
+unfoldable pub replay_outcome : Mode → ℕ → List ℕ → Outcome
+replay_outcome mode budget input = session_outcome mode budget (session_of input)
+
 -- the printed form of a script
 abbrev pub form_outcome : Script → Outcome
 form_outcome script = record { status = statuses.Done; bytes = printed script }
@@ -78,6 +93,7 @@ usage_outcome = record { status = statuses.Usage; bytes = codes "usage\n" }
 abbrev pub command_outcome : Option Command → List ℕ → Outcome
 command_outcome None input = usage_outcome
 command_outcome (Some (Run mode budget)) input = run_outcome mode budget input
+command_outcome (Some (Replay mode budget)) input = replay_outcome mode budget input
 command_outcome (Some Check) input = check_outcome input
 
 unfoldable pub outcome_of : List (List ℕ) → List ℕ → Outcome

@@ -1,8 +1,7 @@
 //! The words of the program, and the command that they are.
 
 ghost use Rattle.std.specs.Prelude.{◌≡◌, ◌≢◌, ℕ, ◌≤◌, map, string_bytes, decimal, option_map, IfSome, IfNone};
-ghost use Rattle.tk_run.specs.Commands.{IsBudget, IsCommand, budget_at, budget_in, command_of, run_of};
-ghost use Rattle.tk_run.specs.declared.command.Command.TheVariants.{Run};
+ghost use Rattle.tk_run.specs.Commands.{IsBudget, IsCommand, IsOptions, budget_at, budget_in, command_of, options, options_of, replay_with, run_with};
 
 use tk_text::natural;
 use tk_types::Mode;
@@ -12,8 +11,17 @@ use tk_types::Mode;
 pub enum Command {
     /// A run of the script that the input is, in a mode and of at most that many steps, from 1 to 1,000,000.
     Run { mode: Mode, budget: u32 },
+    /// The same, fed with the endings of the journal that stands behind the script.
+    Replay { mode: Mode, budget: u32 },
     /// The printed form of the script that the input is.
     Check,
+}
+
+/// How a run is done: its mode, and at most how many steps, from 1 to 1,000,000.
+#[derive(Clone, Copy, Debug, PartialEq, Eq)]
+struct Options {
+    mode: Mode,
+    budget: u32,
 }
 
 /// The steps of a run whose words name none.
@@ -40,7 +48,7 @@ fn budget_at(word: &[u8]) -> Option<u32>
     Some(number as u32)
 }
 
-/// The budget of the words behind `run`.
+/// The budget of the words behind `run` or `replay`.
 #[tactic(auto, unfolding(crate::specs::Commands::budget_in))]
 fn budget_in(words: &[String]) -> Option<u32>
     ensures value { result ≡ budget_in (map string_bytes words.now) }
@@ -58,37 +66,61 @@ fn budget_in(words: &[String]) -> Option<u32>
     budget_at(number.as_bytes())
 }
 
-/// A run of at most so many steps.
-fn run_within(mode: Mode, budget: Option<u32>) -> Option<Command>
+/// The options with that budget.
+fn options_within(mode: Mode, budget: Option<u32>) -> Option<Options>
     requires { IfSome budget IsBudget }
-    ensures value { result ≡ option_map (Run mode) budget }
-    ensures within { IfSome result IsCommand }
+    ensures value { result ≡ option_map (options mode) budget }
+    ensures within { IfSome result IsOptions }
 {
     match budget {
         None => None,
-        Some(budget) => Some(Command::Run { mode, budget }),
+        Some(budget) => Some(Options { mode, budget }),
     }
 }
 
-/// The run that the words behind `run` are: `--sync` or not, and then nothing or `--budget N`.
-#[tactic(auto, unfolding(crate::specs::Commands::run_of))]
-fn run_of(words: &[String]) -> Option<Command>
-    ensures value { result ≡ run_of (map string_bytes words.now) }
-    ensures within { IfSome result IsCommand }
+/// The options that the words behind `run` or `replay` are: `--sync` or not, and then nothing or `--budget N`.
+#[tactic(auto, unfolding(crate::specs::Commands::options_of))]
+fn options_of(words: &[String]) -> Option<Options>
+    ensures value { result ≡ options_of (map string_bytes words.now) }
+    ensures within { IfSome result IsOptions }
 {
     let Some((option, behind)) = words.split_first() else {
-        return Some(Command::Run {
+        return Some(Options {
             mode: Mode::Free,
             budget: DEFAULT_BUDGET,
         });
     };
     if option.as_str() == "--sync" {
-        return run_within(Mode::Sync, budget_in(behind));
+        return options_within(Mode::Sync, budget_in(behind));
     }
-    run_within(Mode::Free, budget_in(words))
+    options_within(Mode::Free, budget_in(words))
 }
 
-/// The command that the words are, or `None` where they are none: `run` with its options, or `check` alone.
+/// The run with these options.
+fn run_with(options: Option<Options>) -> Option<Command>
+    requires { IfSome options IsOptions }
+    ensures value { result ≡ option_map run_with options }
+    ensures within { IfSome result IsCommand }
+{
+    match options {
+        None => None,
+        Some(Options { mode, budget }) => Some(Command::Run { mode, budget }),
+    }
+}
+
+/// The replay with these options.
+fn replay_with(options: Option<Options>) -> Option<Command>
+    requires { IfSome options IsOptions }
+    ensures value { result ≡ option_map replay_with options }
+    ensures within { IfSome result IsCommand }
+{
+    match options {
+        None => None,
+        Some(Options { mode, budget }) => Some(Command::Replay { mode, budget }),
+    }
+}
+
+/// The command that the words are, or `None` where they are none: `run` or `replay` with options, or `check` alone.
 #[tactic(auto, unfolding(crate::specs::Commands::command_of))]
 pub fn command_of(words: &[String]) -> Option<Command>
     ensures value { result ≡ command_of (map string_bytes words.now) }
@@ -98,7 +130,10 @@ pub fn command_of(words: &[String]) -> Option<Command>
         return None;
     };
     if name.as_str() == "run" {
-        return run_of(behind);
+        return run_with(options_of(behind));
+    }
+    if name.as_str() == "replay" {
+        return replay_with(options_of(behind));
     }
     if name.as_str() == "check" && behind.is_empty() {
         return Some(Command::Check);

@@ -15,6 +15,11 @@ mod mutex_runs;
 #[cfg(test)]
 mod pool_runs;
 mod refusal;
+mod replay;
+#[cfg(test)]
+mod replay_runs;
+mod replay_turn;
+mod replaying;
 mod run;
 mod running;
 #[cfg(test)]
@@ -27,12 +32,17 @@ mod tests;
 #[cfg(test)]
 mod time_runs;
 mod turn;
+mod writing;
 
 pub use checking::check_script;
 pub use command::{Command, command_of};
 pub use entry::program;
+pub use replaying::replay_session;
 pub use run::run_script;
 pub use status::Status;
 
 /// The most bytes of a script.
 const LONGEST_SCRIPT: u32 = 1_048_576;
+
+/// The most bytes of a session.
+const LONGEST_SESSION: u32 = 67_108_864;

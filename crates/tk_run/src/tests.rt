@@ -191,6 +191,9 @@ fn other_words_are_usage(rt: HostRuntime) -> Result<(), Fail> {
         "run --budget 1000001",
         "run --budget 01",
         "run --budget 5 --budget",
+        "replay --fast",
+        "replay --budget 5 --sync",
+        "replay --budget 0",
     ] {
         let words = words_of(rt.alloc(), line)?;
         let mut source = MemSource::new(rt.alloc(), HELLO, &[])?;
