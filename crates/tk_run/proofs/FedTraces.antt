@@ -20,7 +20,7 @@ use Rattle.machine_model.specs.Runs.Step.{Pace, Ends, Needs, Went, step}
 use Rattle.machine_model.specs.Runs.Trace.{Rest, arrived_if, entered, free_pace, free_turn, is_next_by, last_line, named_ending, over_with, run_entered, run_turn, run_went, runs, sync_pace, without_ending}
 use Rattle.tk_run.specs.declared.replay_turn.Fate.{Fate}
 use Rattle.tk_run.specs.declared.replay_turn.Fate.TheVariants as fates
-use Rattle.tk_run.specs.Runs.{Writing, behind_lines, writing}
+use Rattle.tk_run.specs.Writings.{Writing, behind_lines, writing}
 use Rattle.tk_run.specs.FedTurns.{Course, course, fed, fed_next, free_course, free_stepped, over_at, stepped, sync_stepped}
 use Rattle.count_lemmas.proofs.Steps.{step_left, step_steps}
 use Rattle.tk_run.proofs.StepFacts.{arrived_steps, needs_steps}

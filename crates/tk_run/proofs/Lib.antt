@@ -1,3 +1,4 @@
+pub mod Alone
 pub mod Budgets
 pub mod Built
 pub mod Devices

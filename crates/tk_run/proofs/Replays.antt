@@ -24,7 +24,7 @@ use Rattle.tk_run.specs.Outcomes.{Outcome, status_of_last}
 use Rattle.tk_run.specs.Replays.{WriteAnswers, failure_status}
 use Rattle.tk_run.specs.declared.writing.Unwritten.{Unwritten}
 use Rattle.tk_run.specs.declared.writing.Unwritten.TheVariants as failures
-use Rattle.tk_run.specs.Runs.{Writing, behind_lines, writing}
+use Rattle.tk_run.specs.Writings.{Writing, behind_lines, writing}
 use Rattle.tk_run.specs.FedTurns.{Course, GoesOn, IsReady, TurnGives, course, next_course, settled}
 use Rattle.count_lemmas.proofs.Steps.{start_unstepped}
 use Rattle.tk_run.proofs.Runs.{IsRunning, before_last, run_goes_on, run_starts}

@@ -1,8 +1,9 @@
 -- How the input is read as a script, by what each command takes.
-use Rattle.std.specs.Prelude.{ℕ, List}
+use Rattle.std.specs.Prelude.{◌≡◌, ℕ, List, []}
+use Rattle.tk_types.specs.declared.script.Script.{Script}
 use Rattle.tk_types.specs.declared.script.Reading.{Reading}
 use Rattle.tk_types.specs.declared.script.Reading.TheVariants as readings
-use Rattle.step_lemmas.specs.Built.{IsBuilt}
+use Rattle.kernel_model.specs.Bodies.Statements.{IsRunnable}
 use Rattle.tk_script.specs.Reading.{answer, reading}
 use Rattle.tk_script.specs.Built.{reading_built}
 use Rattle.tk_session.specs.Reading.{answer as session_answer, session_reading}
@@ -20,7 +21,12 @@ reading_all text = answer (reading text)
 unfoldable pub session_of : List ℕ → SessionReading
 session_of text = session_answer (session_reading text)
 
--- a script that was read can be run
+-- a script that can be run without drivers: it has no devices
+pub record RunsAlone (script : Script) : Type 0 where
+  pub runnable : IsRunnable script
+  pub devices : script.devices ≡ []
+
+-- a script that was read to be run is one
 abbrev pub IsBuiltReading : Reading → Type 0
-IsBuiltReading (readings.Script script) = IsBuilt script
+IsBuiltReading (readings.Script script) = RunsAlone script
 IsBuiltReading (readings.Refused line why) = Unit {0}

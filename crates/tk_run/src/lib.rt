@@ -31,7 +31,6 @@ mod task_runs;
 mod tests;
 #[cfg(test)]
 mod time_runs;
-mod turn;
 mod writing;
 
 pub use checking::check_script;

@@ -1,7 +1,7 @@
 -- What the sink took, and the text of what is to come, make the text of the trace.
 use Rattle.std.proofs.Common.{◌+◌, ◌-◌, [], length}
 use Rattle.machine_model.specs.Runs.Trace.{trace}
-use Rattle.tk_run.specs.Runs.{writing}
+use Rattle.tk_run.specs.Writings.{writing}
 use Rattle.tk_run.proofs.Replays.{IsFeeding}
 use Rattle.tk_run.proofs.replay.replay_machine.Given as goal
 
