@@ -1,5 +1,5 @@
 -- Devices, descriptors and requests: their table, and the moves on it. All else is made of these moves. Each is guarded: where
--- it can't be done it changes nothing. One more stands apart, the arrival of an ending.
+-- it can't be done it changes nothing. Two more stand apart: the arrival of an ending, and the taking of messages to drivers.
 use Rattle.std.specs.Prelude.{ℕ, ◌+◌, ◌==◌, Bool, true, false, ◌&&◌, if◌then◌else◌, List, [], ◌∷◌, ◌++◌, Option, Some, None, map, replicate, slice_index, slice_set, drop}
 use Rattle.std.specs.List.{find, slice_index_or}
 use Rattle.tk_types.specs.declared.script.Device.{Device}
