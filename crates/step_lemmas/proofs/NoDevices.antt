@@ -150,12 +150,12 @@ unfolding calls.wait_ending
 waits_none p who descriptor id timeout none =
     let front : List Check = (within 1 32 descriptor otherwise er.Id) ∷ (within 0 64 id otherwise er.Id) ∷ (int_le (negsuc 0) timeout otherwise er.Par) ∷ (allows p.base.flags who MayWait otherwise er.Ctx) ∷ [] in
     let rest : List Check =
-        (calls.names_request p.table (natural descriptor) (natural id) otherwise er.Id)
-        ∷ (not (natural id == 0) || calls.has_request p.table (natural descriptor) otherwise er.NoExs)
-        ∷ (not (calls.one_waits p (natural descriptor) (natural id)) otherwise er.Obj)
-        ∷ (not (calls.any_waits p (natural descriptor)) otherwise er.Obj)
-        ∷ (not (natural id == 0 && calls.somebody_waits p (natural descriptor)) otherwise er.Obj)
-        ∷ []
+    (calls.names_request p.table (natural descriptor) (natural id) otherwise er.Id)
+    ∷ (not (natural id == 0) || calls.has_request p.table (natural descriptor) otherwise er.NoExs)
+    ∷ (not (calls.one_waits p (natural descriptor) (natural id)) otherwise er.Obj)
+    ∷ (not (calls.any_waits p (natural descriptor)) otherwise er.Obj)
+    ∷ (not (natural id == 0 && calls.somebody_waits p (natural descriptor)) otherwise er.Obj)
+    ∷ []
     in
     let effect : DevDone = calls.waited p (caller who) (natural descriptor) timeout (calls.ending_wish p.table (natural id)) in
     refused_none p (device_checked (calls.wait_checks p who descriptor id timeout) p effect)
@@ -167,7 +167,7 @@ closes_none p who descriptor none =
     let effect : DevDone = calls.closed_or_begun (servings.is_with_driver p.table (natural descriptor)) (calls.without_requests p (natural descriptor)) (caller who) (natural descriptor) in
     refused_none p (device_checked (calls.close_checks p who descriptor) p effect)
     (refused_by ((within 1 32 descriptor otherwise er.Id) ∷ (allows p.base.flags who MayWait otherwise er.Ctx) ∷ []) (calls.is_open p.table (natural descriptor)) er.Id [] p effect
-      (closed_to_all p.table (natural descriptor) none)) none
+    (closed_to_all p.table (natural descriptor) none)) none
 
 -- the calls on suspensions change how often they are disabled alone
 counts_none : (p : DevParts) (off : ℕ) → HasNoDevice p.table → HasNoDevice (calls.counted p off).parts.table

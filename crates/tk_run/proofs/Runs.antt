@@ -54,4 +54,3 @@ run_goes_on {held} {mid} {new} {faults} {faults_mid} {faults_new} {room} {room_m
           let now_sure : (faults_new ≡ faults_mid) × (room_mid ≤ room_new + length text) = sure (omega (arith, before.1)) in
           (now_sure.0 ∙ before.0, omega (arith, before.1, now_sure.1));
     }
-

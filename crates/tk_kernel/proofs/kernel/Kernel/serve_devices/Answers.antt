@@ -25,7 +25,7 @@ pub serve_suspension-requires : goal.serve_suspension-requires
 serve_suspension-requires c = record {
   sound = still_sound closes c.serve_ending.new.self c.serve_close.new.self _ c.serve_close.ensures c.if-serve_close.false
       (still_sound endings c.serve_acceptance.new.self c.serve_ending.new.self _ c.serve_ending.ensures c.if-serve_ending.false
-        (still_sound acceptances c.args.self.now c.serve_acceptance.new.self _ c.in_ok-accepted.ensures c.if-accepted.false c.requires.sound));
+      (still_sound acceptances c.args.self.now c.serve_acceptance.new.self _ c.in_ok-accepted.ensures c.if-accepted.false c.requires.sound));
 }
 
 pub returns : goal.returns
