@@ -1,13 +1,14 @@
 -- What contracts see of a request that a driver works on, and of the driver.
-use Rattle.std.specs.Prelude.{ℕ, Bool, ◌==◌, ◌≡◌, ◌<◌, ◌+◌, ◌*◌, ◌^◌, true, false, if◌then◌else◌, List, [], length, Option, Some, None}
+use Rattle.std.specs.Prelude.{ℕ, Bool, nat_le, not, ◌&&◌, ◌==◌, ◌≡◌, ◌<◌, ◌+◌, ◌*◌, ◌^◌, true, false, if◌then◌else◌, List, [], length, Option, Some, None}
 use Rattle.tk_types.specs.declared.error_code.Er.{Er}
 use Rattle.device_model.specs.RoomyBytes.{RoomyBytes}
 use Rattle.device_model.specs.declared.messages.Message.{Message}
 use Rattle.device_model.specs.declared.messages.Message.TheVariants as message
 use Rattle.device_model.specs.declared.messages.Request.{Request}
 use Rattle.device_model.specs.Units.Stores.{Store}
+use Rattle.device_model.specs.Units.Blocks.{count_at}
 use Rattle.device_model.specs.Units.Function.{IsWhole, Served, block_size}
-use Rattle.driver_model.specs.Cores.{Core}
+use Rattle.driver_model.specs.Cores.{Core, empty_turns}
 use Rattle.dev_units.specs.Views.{HasBytes, HasRoom}
 
 -- a request under way, as it came; blocks that are done, empty turns since the last of them, and bytes that were read
@@ -70,3 +71,23 @@ has_number number (Some request) = request.number == number
 -- what came of a request, where the store plays no part
 abbrev pub served_with : Store → ℕ → Er → List ℕ → Served
 served_with store size error content = record { store = store; size = size; error = error; content = content }
+
+-- the number of the block of a request that is done at the next turn: none where that turn is an empty one, and where the request
+-- moves no bytes
+abbrev pub block_for : Core → ℕ → ℕ → Request → Option ℕ
+block_for core blocks turns request =
+    if not (count_at core.kind core.store request (block_size * blocks) == 0) && nat_le (empty_turns core.kind) turns
+    then Some blocks
+    else None
+
+abbrev pub block_of : Core → Option Progress → Option ℕ
+block_of core None = None
+block_of core (Some it) = block_for core it.blocks it.turns it.request
+
+-- the number of the block that a driver does at its next turn
+abbrev pub block_given : Core → Option Request → Option ℕ
+block_given core None = None
+block_given core (Some request) = block_for core core.blocks core.turns request
+
+abbrev pub block_due : Core → Option ℕ
+block_due core = if core.stopped then None else block_given core core.given

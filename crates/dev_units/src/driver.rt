@@ -3,7 +3,7 @@
 ghost use Rattle.std.specs.Prelude.{◌≡◌, ◌<◌, ◌+◌, ◌-◌, ◌^◌, true, IfOk, None, Some};
 ghost use Rattle.device_model.specs.Units.Function.{IsWhole};
 ghost use Rattle.driver_model.specs.Cores.{aborted, after_block, after_ending, after_message, begun, can_take, core_start, ending_out, has_work, is_empty_turn, is_idle, turned, worked};
-ghost use Rattle.dev_units.specs.Cores.{MayTake, has_number, holding};
+ghost use Rattle.dev_units.specs.Cores.{MayTake, block_due, block_of, has_number, holding};
 
 use crate::block_end::BlockEnd;
 use crate::serving::{Serving, ending};
@@ -97,6 +97,32 @@ impl DriverCore {
         ensures { result ≡ self.now.taken }
     {
         self.taken
+    }
+
+    /// The number of the block that the driver does at its next turn. None where that turn is an empty one or there is no turn, and
+    /// for a request that moves no bytes.
+    pub fn block_due(&self) -> Option<u32>
+        ensures { result ≡ block_due self.now }
+    {
+        if self.stopped {
+            return None;
+        }
+        match &self.serving {
+            Some(serving) => self.block_of(serving),
+            None => None,
+        }
+    }
+
+    /// The number of the block of a request that the driver does at its next turn, if it does one.
+    fn block_of(&self, serving: &Serving) -> Option<u32>
+        ensures { result ≡ block_of self.now (Some serving.now) }
+    {
+        if self.unit.has_block(&serving.request, serving.blocks)
+            && serving.turns >= self.unit.empty_turns()
+        {
+            return Some(serving.blocks);
+        }
+        None
     }
 
     /// Takes a message. A Serve begins its request; it has a whole request, and the driver has none then, and no ending that is

@@ -16,5 +16,5 @@ pub mod whole;
 
 pub use mem_sink::MemSink;
 pub use mem_source::MemSource;
-pub use ports::{Failed, Sink, Source};
+pub use ports::{Failed, Gate, Sink, Source};
 pub use standard::{StdSink, StdSource};

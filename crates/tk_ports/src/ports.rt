@@ -78,3 +78,9 @@ pub trait Sink {
     fn faults(&self) -> u64
         ensures { result ≡ faulted self.now };
 }
+
+/// What a driver passes on its way. A gate may wait there, and no contract speaks of it.
+pub trait Gate {
+    /// Passes with so many blocks of its request done.
+    fn pass(&self, device: u8, block: u32);
+}

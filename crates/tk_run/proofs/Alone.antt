@@ -43,6 +43,7 @@ alone_answers run old new statuses.Usage is past answers = absurd past
 alone_answers run old new statuses.ReadFault is past answers = absurd past
 alone_answers run old new statuses.WriteFault is past answers = answers
 alone_answers run old new statuses.NoMemory is past answers = answers
+alone_answers run old new statuses.NoThread is past answers = absurd answers
 
 -- an empty journal is none
 pub fed_nothing : (script : Script) (mode : Mode) (budget : ℕ) (journal : List Entry) (old new : Option (List ℕ)) (status : Status) → journal ≡ [] → OutcomeAnswers (trace_outcome (trace script mode budget journal)) old new status →

@@ -6,15 +6,15 @@ use Rattle.tk_types.specs.declared.run.Mode.{Mode}
 use Rattle.tk_types.specs.declared.line.LastLine.{LastLine}
 use Rattle.tk_types.specs.declared.line.LastLine.TheVariants as lasts
 use Rattle.machine_model.specs.Runs.Trace.{trace}
-use Rattle.tk_run.specs.declared.command.Command.TheVariants.{Run, Check}
+use Rattle.tk_run.specs.declared.command.Command.TheVariants.{Check}
 use Rattle.tk_run.specs.declared.status.Status.{Status}
 use Rattle.tk_run.specs.declared.status.Status.TheVariants as statuses
-use Rattle.tk_run.specs.Readings.{reading_all, reading_of}
-use Rattle.tk_run.specs.Outcomes.{check_outcome, printed_outcome, reading_outcome, run_outcome, status_of_last}
-use Rattle.tk_run.specs.Answers.{OutcomeAnswers, HeadlineAnswers, IsDone, IsPastReading}
-use Rattle.tk_run.proofs.Readings.{all_spelled, spelled}
+use Rattle.tk_run.specs.Readings.{reading_of}
+use Rattle.tk_run.specs.Outcomes.{check_outcome, printed_outcome, status_of_last}
+use Rattle.tk_run.specs.Answers.{OutcomeAnswers, HeadlineAnswers, IsDone}
+use Rattle.tk_run.proofs.Readings.{spelled}
 
--- ---- of `run`
+-- ---- how a run ended
 
 pub done_last : (last : LastLine) → status_of_last last ≡ statuses.Done → IsDone last
 done_last lasts.Idle is = inl refl
@@ -30,32 +30,11 @@ budget_last lasts.Budget is = refl
 budget_last lasts.Starved is = absurd (cc)
 budget_last (lasts.Unfit entry) is = absurd (cc)
 
-read_headline : (mode : Mode) (budget : ℕ) (input : List ℕ) (old new : Option (List ℕ)) (reading : Reading) (status : Status) → reading_of input ≡ reading → IsPastReading status
-    → OutcomeAnswers (reading_outcome mode budget reading) old new status → HeadlineAnswers (Some (Run mode budget)) input old new status
-read_headline mode budget input old new (readings.Script script) statuses.Done is past answers =
-    (script, spelled input script is, done_last (trace script mode budget []).last answers.0, answers.1)
-read_headline mode budget input old new (readings.Script script) statuses.Budget is past answers =
-    (script, spelled input script is, budget_last (trace script mode budget []).last answers.0, answers.1)
-read_headline mode budget input old new (readings.Refused line why) statuses.Done is past answers = absurd (cc (answers.0))
-read_headline mode budget input old new (readings.Refused line why) statuses.Budget is past answers = absurd (cc (answers.0))
-read_headline mode budget input old new _ statuses.Starved is past answers = past
-read_headline mode budget input old new _ (statuses.Unfit entry) is past answers = past
-read_headline mode budget input old new _ (statuses.Refused line why) is past answers = tt
-read_headline mode budget input old new _ statuses.ReadFault is past answers = tt
-read_headline mode budget input old new _ statuses.WriteFault is past answers = tt
-read_headline mode budget input old new _ statuses.NoMemory is past answers = tt
-read_headline mode budget input old new _ statuses.Usage is past answers = tt
-
-pub run_headline : (mode : Mode) (budget : ℕ) (input : List ℕ) (old new : Option (List ℕ)) (status : Status) → IsPastReading status
-    → OutcomeAnswers (run_outcome mode budget input) old new status → HeadlineAnswers (Some (Run mode budget)) input old new status
-unfolding run_outcome
-run_headline mode budget input old new status past answers = read_headline mode budget input old new (reading_of input) status refl past answers
-
 -- ---- of `check`
 
-form_headline : (input : List ℕ) (old new : Option (List ℕ)) (reading : Reading) (status : Status) → reading_all input ≡ reading
+form_headline : (input : List ℕ) (old new : Option (List ℕ)) (reading : Reading) (status : Status) → reading_of input ≡ reading
     → OutcomeAnswers (printed_outcome reading) old new status → HeadlineAnswers (Some Check) input old new status
-form_headline input old new (readings.Script script) statuses.Done is answers = (script, all_spelled input script is, answers.1)
+form_headline input old new (readings.Script script) statuses.Done is answers = (script, spelled input script is, answers.1)
 form_headline input old new (readings.Script script) statuses.Budget is answers = absurd (cc (answers.0))
 form_headline input old new (readings.Refused line why) statuses.Done is answers = absurd (cc (answers.0))
 form_headline input old new (readings.Refused line why) statuses.Budget is answers = absurd (cc (answers.0))
@@ -67,9 +46,11 @@ form_headline input old new _ (statuses.Refused line why) is answers = tt
 form_headline input old new _ statuses.ReadFault is answers = tt
 form_headline input old new _ statuses.WriteFault is answers = tt
 form_headline input old new _ statuses.NoMemory is answers = tt
+form_headline input old new (readings.Script script) statuses.NoThread is answers = tt
+form_headline input old new (readings.Refused line why) statuses.NoThread is answers = tt
 form_headline input old new _ statuses.Usage is answers = tt
 
 pub check_headline : (input : List ℕ) (old new : Option (List ℕ)) (status : Status)
     → OutcomeAnswers (check_outcome input) old new status → HeadlineAnswers (Some Check) input old new status
 unfolding check_outcome
-check_headline input old new status answers = form_headline input old new (reading_all input) status refl answers
+check_headline input old new status answers = form_headline input old new (reading_of input) status refl answers

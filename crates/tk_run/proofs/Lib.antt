@@ -1,12 +1,16 @@
 pub mod Alone
 pub mod Budgets
-pub mod Built
 pub mod Devices
 pub mod FedTraces
 pub mod FedTurns
+pub mod FleetAnswers
+pub mod FleetLoops
+pub mod FleetTurns
+pub mod Handing
 pub mod Headlines
 pub mod Readings
 pub mod Replays
+pub mod RunHeadlines
 pub mod Runs
 pub mod SessionHeadlines
 pub mod SessionReadings

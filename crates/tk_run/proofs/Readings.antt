@@ -1,20 +1,23 @@
 -- The input within the limit decides how it is read, and what is read is spelled.
+use Rattle.std.specs.Prelude.{IfOk}
 use Rattle.std.proofs.Common.{◌≡◌, ◌⊎◌, ℕ, ◌+◌, ◌<◌, ◌≤◌, List, take, length, Result, Ok, Err, inl, inr, refl, sym, ap, ◌∙◌, arith}
 use Rattle.std.proofs.lemmas.List.{take_all, length-take-le}
 use Rattle.std.proofs.lemmas.Bool.{lt-ltb}
 use Rattle.std.proofs.lemmas.Bool.Decides.{leb_tells}
 use Rattle.tk_types.specs.declared.script.Script.{Script}
+use Rattle.tk_types.specs.declared.memory.OutOfMemory.{OutOfMemory}
+use Rattle.tk_types.specs.declared.script.Reading.{Reading}
 use Rattle.tk_types.specs.declared.script.Reading.TheVariants as readings
 use Rattle.tk_types.specs.declared.why.Why.TheVariants.{Long}
 use Rattle.tk_model.specs.ScriptText.{Spells}
 use Rattle.kernel_model.specs.Bodies.Statements.{IsRunnable}
 use Rattle.tk_raw.specs.RawReading.{Refusal, raw_reading}
 use Rattle.tk_raw.specs.declared.raw.RawScript.{RawScript}
-use Rattle.tk_script.specs.Built.{reading_built, resolved_built}
 use Rattle.tk_script.specs.Reading.{answer, reading}
 use Rattle.tk_script.specs.Resolving.{◌>>=◌, resolved}
-use Rattle.tk_script.proofs.Readings.{built_found, reading_takes}
-use Rattle.tk_run.specs.Readings.{reading_all, reading_of}
+use Rattle.tk_script.proofs.Readings.{reading_takes}
+use Rattle.tk_run.proofs.Devices.{spelled_devices}
+use Rattle.tk_run.specs.Readings.{IsRunReading, Runs, reading_of}
 
 -- ---- the limit
 
@@ -36,12 +39,8 @@ front_decides : (text input : List ℕ) → text ≡ take (1048576 + 1) input �
 front_decides text input is = raw_decides text input is (within_or_past (length input) 1048576)
 
 pub reading_of_front : (text input : List ℕ) → text ≡ take (1048576 + 1) input → reading_of text ≡ reading_of input
-unfolding reading_of reading_built
-reading_of_front text input is = ap (λ (raw : Result RawScript Refusal). answer (raw >>= resolved_built)) (front_decides text input is)
-
-pub reading_all_front : (text input : List ℕ) → text ≡ take (1048576 + 1) input → reading_all text ≡ reading_all input
-unfolding reading_all reading
-reading_all_front text input is = ap (λ (raw : Result RawScript Refusal). answer (raw >>= resolved)) (front_decides text input is)
+unfolding reading_of reading
+reading_of_front text input is = ap (λ (raw : Result RawScript Refusal). answer (raw >>= resolved)) (front_decides text input is)
 
 -- ---- what is read is spelled
 
@@ -51,12 +50,17 @@ script_was_read (Err refusal) script is = absurd (cc)
 
 pub spelled : (text : List ℕ) (script : Script) → reading_of text ≡ readings.Script script → Spells text script
 unfolding reading_of
-spelled text script is = built_found text script (script_was_read (reading_built text) script is)
-
-pub all_spelled : (text : List ℕ) (script : Script) → reading_all text ≡ readings.Script script → Spells text script
-unfolding reading_all
-all_spelled text script is = reading_takes text script (script_was_read (reading text) script is)
+spelled text script is = reading_takes text script (script_was_read (reading text) script is)
 
 -- what is spelled can be run
 pub spelled_runs : (text : List ℕ) (script : Script) → Spells text script → IsRunnable script
 spelled_runs text script is = record { few_devices = is.script_is.few_devices; least_priority = is.script_is.boot_priority.0; most_priority = is.script_is.boot_priority.1 }
+
+-- so what was read can be run, unless it is refused
+read_runs : (text : List ℕ) (read : Reading) → ((script : Script) → read ≡ readings.Script script → Spells text script) → IsRunReading read
+read_runs text (readings.Script script) found = let s = found script refl in record { runnable = spelled_runs text script s; devices = spelled_devices text script s }
+read_runs text (readings.Refused line why) found = tt
+
+pub found_runs : (text : List ℕ) (result : Result Reading OutOfMemory) → IfOk result (λ read. (script : Script) → read ≡ readings.Script script → Spells text script) → IfOk result IsRunReading
+found_runs text (Ok read) found = read_runs text read found
+found_runs text (Err error) found = tt

@@ -47,6 +47,7 @@ read_headline mode budget input old new _ (statuses.Refused line why) is past an
 read_headline mode budget input old new _ statuses.ReadFault is past answers = tt
 read_headline mode budget input old new _ statuses.WriteFault is past answers = tt
 read_headline mode budget input old new _ statuses.NoMemory is past answers = tt
+read_headline mode budget input old new _ statuses.NoThread is past answers = tt
 read_headline mode budget input old new _ statuses.Usage is past answers = tt
 
 replay_headline : (mode : Mode) (budget : ℕ) (input : List ℕ) (old new : Option (List ℕ)) (status : Status) → IsPastSession status

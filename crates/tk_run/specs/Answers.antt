@@ -8,7 +8,7 @@ use Rattle.tk_ports.specs.Streams.{Appends, AppendsFront}
 use Rattle.machine_model.specs.Runs.Trace.{lines_of, trace}
 use Rattle.tk_model.specs.LineText.{text_of_lines}
 use Rattle.tk_run.specs.declared.command.Command.{Command}
-use Rattle.tk_run.specs.declared.command.Command.TheVariants.{Run, Replay, Check}
+use Rattle.tk_run.specs.declared.command.Command.TheVariants.{Replay, Check}
 use Rattle.tk_run.specs.declared.status.Status.{Status}
 use Rattle.tk_run.specs.declared.status.Status.TheVariants as statuses
 use Rattle.tk_model.specs.ScriptText.{Spells, printed}
@@ -25,6 +25,7 @@ OutcomeAnswers outcome old new statuses.Starved = (outcome.status ≡ statuses.S
 OutcomeAnswers outcome old new (statuses.Unfit entry) = (outcome.status ≡ statuses.Unfit entry) × Appends old new outcome.bytes
 OutcomeAnswers outcome old new statuses.Usage = (outcome.status ≡ statuses.Usage) × Appends old new outcome.bytes
 OutcomeAnswers outcome old new statuses.ReadFault = new ≡ old
+OutcomeAnswers outcome old new statuses.NoThread = ⊥
 OutcomeAnswers outcome old new statuses.WriteFault = AppendsFront old new outcome.bytes
 OutcomeAnswers outcome old new statuses.NoMemory = AppendsFront old new outcome.bytes
 
@@ -41,11 +42,6 @@ pub record IsCertain (status : Status) (faults faults_now : ℕ) (answer : Statu
   pub answer_is : (answer ≡ status) ⊎ (answer ≡ statuses.NoMemory)
   pub no_fault : faults_now ≡ faults
 
--- the input spells a script, and the sink took the text of its trace, whose last line is one of these
-abbrev pub WritesTrace : Mode → ℕ → List ℕ → Option (List ℕ) → Option (List ℕ) → (LastLine → Type 0) → Type 0
-WritesTrace mode budget input old new IsEnd =
-    (script : Script) × Spells input script × IsEnd (trace script mode budget []).last × Appends old new (text_of_lines (lines_of (trace script mode budget [])))
-
 -- the input spells a script, and the sink took its printed form
 abbrev pub WritesPrinted : List ℕ → Option (List ℕ) → Option (List ℕ) → Type 0
 WritesPrinted input old new = (script : Script) × Spells input script × Appends old new (printed script)
@@ -58,11 +54,9 @@ WritesSession mode budget input old new IsEnd =
 abbrev pub IsDone : LastLine → Type 0
 IsDone last = (last ≡ lasts.Idle) ⊎ (last ≡ lasts.Halt)
 
--- what stands behind the status of a run, said by what a text spells and not by how it is read; that an ending is missing or
--- isn't fit is answered by a replay alone
+-- what stands behind the status of a replay or a printing, said by what a text spells and not by how it is read; that an ending is
+-- missing or isn't fit is answered by a replay alone
 abbrev pub HeadlineAnswers : Option Command → List ℕ → Option (List ℕ) → Option (List ℕ) → Status → Type 0
-HeadlineAnswers (Some (Run mode budget)) input old new statuses.Done = WritesTrace mode budget input old new IsDone
-HeadlineAnswers (Some (Run mode budget)) input old new statuses.Budget = WritesTrace mode budget input old new (λ last. last ≡ lasts.Budget)
 HeadlineAnswers (Some (Replay mode budget)) input old new statuses.Done = WritesSession mode budget input old new IsDone
 HeadlineAnswers (Some (Replay mode budget)) input old new statuses.Budget = WritesSession mode budget input old new (λ last. last ≡ lasts.Budget)
 HeadlineAnswers (Some (Replay mode budget)) input old new statuses.Starved = WritesSession mode budget input old new (λ last. last ≡ lasts.Starved)
@@ -83,12 +77,22 @@ IsUsage answer = (answer ≡ statuses.Usage) ⊎ (answer ≡ statuses.WriteFault
 abbrev pub IsPastReading : Status → Type 0
 IsPastReading statuses.ReadFault = ⊥
 IsPastReading statuses.Usage = ⊥
+IsPastReading statuses.NoThread = ⊥
 IsPastReading statuses.Starved = ⊥
 IsPastReading (statuses.Unfit entry) = ⊥
 IsPastReading _ = Unit {0}
+
+-- the same of a run, whose drivers may not start
+abbrev pub IsPastStart : Status → Type 0
+IsPastStart statuses.ReadFault = ⊥
+IsPastStart statuses.Usage = ⊥
+IsPastStart statuses.Starved = ⊥
+IsPastStart (statuses.Unfit entry) = ⊥
+IsPastStart _ = Unit {0}
 
 -- the answers that may come once the input was read, where the endings of a journal are fed
 abbrev pub IsPastSession : Status → Type 0
 IsPastSession statuses.ReadFault = ⊥
 IsPastSession statuses.Usage = ⊥
+IsPastSession statuses.NoThread = ⊥
 IsPastSession _ = Unit {0}

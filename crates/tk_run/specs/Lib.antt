@@ -2,6 +2,8 @@ pub mod Commands
 pub mod Readings
 pub mod Outcomes
 pub mod Answers
+pub mod Runs
+pub mod FleetRuns
 pub mod Writings
 pub mod FedTurns
 pub mod Replays

@@ -3,6 +3,8 @@ use Rattle.std.specs.Prelude.{ℕ, List, ◌++◌, [], Option, Some, None, codes
 use Rattle.tk_types.specs.declared.script.Script.{Script}
 use Rattle.tk_types.specs.declared.script.Reading.{Reading}
 use Rattle.tk_types.specs.declared.script.Reading.TheVariants as readings
+use Rattle.tk_types.specs.declared.run.End.{End}
+use Rattle.tk_types.specs.declared.run.End.TheVariants as ends
 use Rattle.tk_types.specs.declared.run.Mode.{Mode}
 use Rattle.tk_types.specs.declared.line.LastLine.{LastLine}
 use Rattle.tk_types.specs.declared.line.LastLine.TheVariants as lasts
@@ -16,7 +18,7 @@ use Rattle.tk_run.specs.declared.command.Command.TheVariants.{Run, Replay, Check
 use Rattle.tk_run.specs.declared.status.Status.{Status}
 use Rattle.tk_run.specs.declared.status.Status.TheVariants as statuses
 use Rattle.tk_run.specs.Commands.{command_of}
-use Rattle.tk_run.specs.Readings.{reading_all, reading_of, session_of}
+use Rattle.tk_run.specs.Readings.{reading_of, session_of}
 use Rattle.tk_session.specs.declared.session.Session.{Session}
 use Rattle.tk_session.specs.declared.session.SessionReading.{SessionReading}
 use Rattle.tk_session.specs.declared.session.SessionReading.TheVariants as sessions
@@ -33,6 +35,7 @@ number_of (statuses.Refused line why) = 2
 number_of statuses.ReadFault = 3
 number_of statuses.WriteFault = 4
 number_of statuses.NoMemory = 5
+number_of statuses.NoThread = 6
 number_of statuses.Starved = 7
 number_of (statuses.Unfit entry) = 8
 number_of statuses.Usage = 64
@@ -45,6 +48,11 @@ status_of_last lasts.Budget = statuses.Budget
 status_of_last lasts.Starved = statuses.Starved
 status_of_last (lasts.Unfit entry) = statuses.Unfit entry
 
+abbrev pub status_of_end : End → Status
+status_of_end ends.Idle = statuses.Done
+status_of_end ends.Halt = statuses.Done
+status_of_end ends.Budget = statuses.Budget
+
 abbrev pub trace_outcome : Trace → Outcome
 trace_outcome run = record { status = status_of_last run.last; bytes = text_of_lines (lines_of run) }
 
@@ -54,14 +62,6 @@ refusal_text line why = codes "refused " ++ decimal line ++ codes " " ++ why_tex
 
 abbrev pub refusal_outcome : ℕ → Why → Outcome
 refusal_outcome line why = record { status = statuses.Refused line why; bytes = refusal_text line why }
-
--- the run of what was read, which is fed with no endings, or its refusal
-abbrev pub reading_outcome : Mode → ℕ → Reading → Outcome
-reading_outcome mode budget (readings.Script script) = trace_outcome (trace script mode budget [])
-reading_outcome mode budget (readings.Refused line why) = refusal_outcome line why
-
-unfoldable pub run_outcome : Mode → ℕ → List ℕ → Outcome
-run_outcome mode budget input = reading_outcome mode budget (reading_of input)
 
 -- the trace of a session: the run of its script, fed with the endings of its journal
 abbrev pub session_trace : Mode → ℕ → Session → Trace
@@ -85,16 +85,7 @@ printed_outcome (readings.Script script) = form_outcome script
 printed_outcome (readings.Refused line why) = refusal_outcome line why
 
 unfoldable pub check_outcome : List ℕ → Outcome
-check_outcome input = printed_outcome (reading_all input)
+check_outcome input = printed_outcome (reading_of input)
 
 abbrev pub usage_outcome : Outcome
 usage_outcome = record { status = statuses.Usage; bytes = codes "usage\n" }
-
-abbrev pub command_outcome : Option Command → List ℕ → Outcome
-command_outcome None input = usage_outcome
-command_outcome (Some (Run mode budget)) input = run_outcome mode budget input
-command_outcome (Some (Replay mode budget)) input = replay_outcome mode budget input
-command_outcome (Some Check) input = check_outcome input
-
-unfoldable pub outcome_of : List (List ℕ) → List ℕ → Outcome
-outcome_of words input = command_outcome (command_of words) input

@@ -1,28 +1,20 @@
 //! The command `check`: the printed form of the script that the input is.
 
-ghost use Rattle.std.specs.Prelude.{◌≡◌, ◌≢◌, ◌≤◌, length, Some, IfOk, IfSome};
+ghost use Rattle.std.specs.Prelude.{◌≡◌, ◌≢◌, ◌≤◌, length, Some, IfSome};
 ghost use Rattle.tk_ports.specs.Streams.{CountsWithin, Rose, TakesWithin};
 ghost use Rattle.tk_run.specs.Answers.{HeadlineAnswers, IsCertain, IsPastReading, OutcomeAnswers};
 ghost use Rattle.tk_run.specs.Outcomes.{check_outcome, form_outcome, printed_outcome};
-ghost use Rattle.tk_run.specs.Readings.{reading_all};
 ghost use Rattle.tk_run.specs.declared.command.Command.TheVariants.{Check};
 
 use crate::LONGEST_SCRIPT;
+use crate::reading::reading_of;
 use crate::refusal::refuse;
 use crate::status::Status;
 use std::alloc::Global;
 use tk_ports::whole::{ReadError, read_within, write_whole};
 use tk_ports::{Sink, Source};
-use tk_script::{print_script, read_script};
-use tk_types::{OutOfMemory, Reading, Script};
-
-/// What a text is read as to be printed: a script, or a refusal.
-#[tactic(auto, unfolding(crate::specs::Readings::reading_all))]
-fn reading_all(alloc: Global, text: &[u8]) -> Result<Reading, OutOfMemory>
-    ensures { IfOk result (λ reading. reading ≡ reading_all text.now) }
-{
-    read_script(alloc, text)
-}
+use tk_script::print_script;
+use tk_types::{Reading, Script};
 
 /// Writes the printed form of a script.
 fn write_form<K: Sink>(alloc: Global, script: &Script, sink: &mut K) -> Status
@@ -67,14 +59,14 @@ fn check_text<K: Sink>(alloc: Global, text: &[u8], sink: &mut K) -> Status
     ensures certain { length (check_outcome text.now).bytes ≤ K.sure_room sink.old
         → IsCertain (check_outcome text.now).status (K.faulted sink.old) (K.faulted sink.new) result }
 {
-    let Ok(reading) = reading_all(alloc, text) else {
+    let Ok(reading) = reading_of(alloc, text) else {
         return Status::NoMemory;
     };
     write_reading(alloc, reading, sink)
 }
 
 /// Reads a script of the whole grammar and writes its printed form: one space between words, no comments and no
-/// empty lines, and a line feed behind each line. Nothing is run, so lines that aren't built yet are printed as well.
+/// empty lines, and a line feed behind each line. Nothing is run.
 ///
 /// Answers `Done` behind the printed form, or `Refused` where the input spells no script; then `refused LINE WHY` is
 /// written. `ReadFault` where the source failed; then nothing is written. `WriteFault`, where the sink failed, and
@@ -86,6 +78,7 @@ pub fn check_script<S: Source, K: Sink>(alloc: Global, source: &mut S, sink: &mu
     // With `Done` the input spells a script, and its printed form was written.
     ensures headline { IfSome (S.left source.old) (λ input. HeadlineAnswers (Some Check) input (K.held sink.old) (K.held sink.new) result) }
     ensures not_usage { result ≢ Status.Usage }
+    ensures not_thread { result ≢ Status.NoThread }
 
     // A failure shows in its count, and nothing was written before the input was read.
     ensures read_fault { result ≡ Status.ReadFault → Rose (S.faulted source.old) (S.faulted source.new) × (sink.new ≡ sink.old) }

@@ -63,7 +63,7 @@ const SERVICE_ERRORS: Case = Case {
 #[test]
 fn interrupts_run(rt: HostRuntime) -> Result<(), Fail> {
     for case in [ORDER_OF_STARTS, WAITING_UNDER_DI, PLACE_OF_THE_PREEMPTED] {
-        let (status, output) = outcome(rt.alloc(), case.words, case.script)?;
+        let (status, output) = outcome(&rt, rt.alloc(), case.words, case.script)?;
         assert_eq!(rt; output.as_slice(), case.trace);
         assert_eq!(rt; status, case.status);
     }
@@ -74,7 +74,7 @@ fn interrupts_run(rt: HostRuntime) -> Result<(), Fail> {
 #[test]
 fn services_run(rt: HostRuntime) -> Result<(), Fail> {
     for case in [VALUES_AND_FRAMES, ENDED_INSIDE, SERVICE_ERRORS] {
-        let (status, output) = outcome(rt.alloc(), case.words, case.script)?;
+        let (status, output) = outcome(&rt, rt.alloc(), case.words, case.script)?;
         assert_eq!(rt; output.as_slice(), case.trace);
         assert_eq!(rt; status, case.status);
     }

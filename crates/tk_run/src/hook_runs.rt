@@ -103,7 +103,7 @@ fn hooks_and_lists_run(rt: HostRuntime) -> Result<(), Fail> {
         QUEUES_OF_WAITERS,
         READY_QUEUE,
     ] {
-        let (status, output) = outcome(rt.alloc(), case.words, case.script)?;
+        let (status, output) = outcome(&rt, rt.alloc(), case.words, case.script)?;
         assert_eq!(rt; output.as_slice(), case.trace);
         assert_eq!(rt; status, case.status);
     }

@@ -6,14 +6,18 @@ mod command;
 #[cfg(test)]
 mod context_runs;
 mod entry;
+mod fleet_run;
+mod fleet_turn;
 #[cfg(test)]
 mod hook_runs;
 #[cfg(test)]
 mod mail_runs;
 #[cfg(test)]
 mod mutex_runs;
+mod offering;
 #[cfg(test)]
 mod pool_runs;
+mod reading;
 mod refusal;
 mod replay;
 #[cfg(test)]
@@ -36,8 +40,10 @@ mod writing;
 pub use checking::check_script;
 pub use command::{Command, command_of};
 pub use entry::program;
+pub use offering::offer;
 pub use replaying::replay_session;
 pub use run::run_script;
+pub use running::run_session;
 pub use status::Status;
 
 /// The most bytes of a script.

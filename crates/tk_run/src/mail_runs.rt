@@ -174,7 +174,7 @@ fn messages_run(rt: HostRuntime) -> Result<(), Fail> {
         FROM_A_HANDLER,
         FULL_TABLES,
     ] {
-        let (status, output) = outcome(rt.alloc(), case.words, case.script)?;
+        let (status, output) = outcome(&rt, rt.alloc(), case.words, case.script)?;
         assert_eq!(rt; output.as_slice(), case.trace);
         assert_eq!(rt; status, case.status);
     }

@@ -131,7 +131,7 @@ fn mutexes_run(rt: HostRuntime) -> Result<(), Fail> {
         CYCLE_OF_THREE,
         CEILINGS_IN_EACH_OTHER,
     ] {
-        let (status, output) = outcome(rt.alloc(), case.words, case.script)?;
+        let (status, output) = outcome(&rt, rt.alloc(), case.words, case.script)?;
         assert_eq!(rt; output.as_slice(), case.trace);
         assert_eq!(rt; status, case.status);
     }

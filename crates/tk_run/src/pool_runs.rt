@@ -120,7 +120,7 @@ fn pools_run(rt: HostRuntime) -> Result<(), Fail> {
         INHERITING_WAITER,
         FULL_TABLES,
     ] {
-        let (status, output) = outcome(rt.alloc(), case.words, case.script)?;
+        let (status, output) = outcome(&rt, rt.alloc(), case.words, case.script)?;
         assert_eq!(rt; output.as_slice(), case.trace);
         assert_eq!(rt; status, case.status);
     }

@@ -158,7 +158,7 @@ fn sessions_run(rt: HostRuntime) -> Result<(), Fail> {
         SUSPENSION_SENDS_ITS_EVENT,
         WAIT_FOR_ANY_IS_REFUSED_WHILE_A_TASK_WAITS,
     ] {
-        let (status, output) = outcome(rt.alloc(), case.words, case.script)?;
+        let (status, output) = outcome(&rt, rt.alloc(), case.words, case.script)?;
         assert_eq!(rt; output.as_slice(), case.trace);
         assert_eq!(rt; status, case.status);
     }

@@ -90,6 +90,7 @@ pub fn replay_session<S: Source, K: Sink>(
     // With the status of a run the input spells a session, and the trace of its script, fed with its journal, was written.
     ensures headline { IfSome (S.left source.old) (λ input. HeadlineAnswers (Some (Replay mode budget)) input (K.held sink.old) (K.held sink.new) result) }
     ensures not_usage { result ≢ Status.Usage }
+    ensures not_thread { result ≢ Status.NoThread }
 
     // A failure shows in its count, and nothing was written before the input was read.
     ensures read_fault { result ≡ Status.ReadFault → Rose (S.faulted source.old) (S.faulted source.new) × (sink.new ≡ sink.old) }

@@ -128,7 +128,7 @@ fn worked_runs_have_their_traces(rt: HostRuntime) -> Result<(), Fail> {
         FULL_TABLES,
     ];
     for case in cases {
-        let (status, output) = outcome(rt.alloc(), case.words, case.script)?;
+        let (status, output) = outcome(&rt, rt.alloc(), case.words, case.script)?;
         assert_eq!(rt; output.as_slice(), case.trace);
         assert_eq!(rt; status, case.status);
     }

@@ -5,8 +5,7 @@ ghost use Rattle.tk_run.specs.Outcomes.{number_of};
 
 use tk_types::Why;
 
-/// How a call ended. `Starved` and `Unfit` are ends of runs that are fed with the endings of requests, which no
-/// command does yet.
+/// How a call ended. `Starved` and `Unfit` are ends of a replay, and `NoThread` of a run with devices.
 #[derive(Clone, Copy, Debug, PartialEq, Eq)]
 pub enum Status {
     /// The run ended by itself, with nothing left to do or by `halt`.
@@ -21,6 +20,8 @@ pub enum Status {
     WriteFault,
     /// The host's memory ran out.
     NoMemory,
+    /// The driver of a device couldn't be started.
+    NoThread,
     /// The run needs the ending of a request, and no entry is left that gives it.
     Starved,
     /// The entry with that number, from 1 on, gives an ending that isn't fit at its place.
@@ -41,6 +42,7 @@ impl Status {
             Status::ReadFault => 3,
             Status::WriteFault => 4,
             Status::NoMemory => 5,
+            Status::NoThread => 6,
             Status::Starved => 7,
             Status::Unfit { .. } => 8,
             Status::Usage => 64,

@@ -91,7 +91,7 @@ fn worked_runs_have_their_traces(rt: HostRuntime) -> Result<(), Fail> {
         COUNTED, SUSPENDED, DELAYS, ENDLESS, TIME_OUTS, PRIORITIES, COMPUTING, RELEASED, REFUSED,
     ];
     for case in cases {
-        let (status, output) = outcome(rt.alloc(), case.words, case.script)?;
+        let (status, output) = outcome(&rt, rt.alloc(), case.words, case.script)?;
         assert_eq!(rt; output.as_slice(), case.trace);
         assert_eq!(rt; status, case.status);
     }

@@ -3,8 +3,11 @@
 ghost use Rattle.std.specs.Prelude.{Some};
 
 use crate::{Status, program};
+use dev_drivers::StdSpawner;
 use std::alloc::Global;
+use std::sync::Wait;
 use std::test::Fail;
+use std::thread::Threads;
 use tk_ports::whole::read_within;
 use tk_ports::{Failed, MemSink, MemSource, Sink, Source};
 use tk_types::{OutOfMemory, Why};
@@ -33,10 +36,12 @@ const PLAIN: &[u8] = b"utk 1\nboot main 10\nbody main task\nsay hello\nend\n";
 const WITH_DEVICE: &[u8] =
     b"utk 1\ndevice d0 ram 16\npace 7\nirq 1 1\nboot main 10\nbody main task\nnop\nend\n";
 
-const LATER: &[u8] =
+const NO_DEVICE: &[u8] =
     b"utk 1\n# note\nboot main 10\nbody main task\nsay a\ntk_cls_dev  1\nhalt\nend\n";
 
-const LATER_FORM: &[u8] = b"utk 1\nboot main 10\nbody main task\nsay a\ntk_cls_dev 1\nhalt\nend\n";
+const NO_DEVICE_TRACE: &[u8] = b"0 D 1\n1 S 1 a\n2 C 1 tk_cls_dev E_ID\n3 END halt\n";
+
+const NO_DEVICE_FORM: &[u8] = b"utk 1\nboot main 10\nbody main task\nsay a\ntk_cls_dev 1\nhalt\nend\n";
 
 const OPEN_BODY: &[u8] = b"utk 1\nboot main 10\nbody main task\ntk_ext_tsk\n";
 
@@ -55,7 +60,8 @@ fn words_of(alloc: Global, line: &str) -> Result<Vec<String>, OutOfMemory> {
 }
 
 /// What the program answers and writes, over streams that never fail.
-pub(crate) fn outcome(
+pub(crate) fn outcome<R: Threads + Wait + Copy + Send + Sync + 'static>(
+    rt: &R,
     alloc: Global,
     line: &str,
     input: &[u8],
@@ -63,7 +69,15 @@ pub(crate) fn outcome(
     let words = words_of(alloc, line)?;
     let mut source = MemSource::new(alloc, input, &[])?;
     let mut sink = MemSink::new(alloc, 4096, &[])?;
-    let status = program(alloc, &words, &mut source, &mut sink);
+    let mut spawner = StdSpawner::new();
+    let (status, _) = program(
+        rt,
+        alloc,
+        &words,
+        &mut source,
+        &mut sink,
+        &mut spawner,
+    );
     let output = Vec::from_slice(alloc, sink.bytes())?;
     Ok((status, output))
 }
@@ -76,7 +90,7 @@ fn scripts_run_to_their_ends(rt: HostRuntime) -> Result<(), Fail> {
         (PREEMPTION, PREEMPTION_TRACE),
         (WAKE_UP, WAKE_UP_TRACE),
     ] {
-        let (status, output) = outcome(rt.alloc(), "run", input)?;
+        let (status, output) = outcome(&rt, rt.alloc(), "run", input)?;
         assert_eq!(rt; output.as_slice(), trace);
         assert_eq!(rt; status, Status::Done);
         assert_eq!(rt; status.number(), 0);
@@ -87,14 +101,14 @@ fn scripts_run_to_their_ends(rt: HostRuntime) -> Result<(), Fail> {
 /// A budget of one step ends the run behind that step, and one that the run doesn't need changes nothing.
 #[test]
 fn runs_end_at_their_budgets(rt: HostRuntime) -> Result<(), Fail> {
-    let (status, output) = outcome(rt.alloc(), "run --budget 1", HELLO)?;
+    let (status, output) = outcome(&rt, rt.alloc(), "run --budget 1", HELLO)?;
     assert_eq!(rt;
         output.as_slice(),
         b"0 D 1\n1 S 1 hello\n1 END budget\n".as_slice()
     );
     assert_eq!(rt; status, Status::Budget);
     assert_eq!(rt; status.number(), 1);
-    let (status, output) = outcome(rt.alloc(), "run --budget 1000000", HELLO)?;
+    let (status, output) = outcome(&rt, rt.alloc(), "run --budget 1000000", HELLO)?;
     assert_eq!(rt; output.as_slice(), HELLO_TRACE);
     assert_eq!(rt; status, Status::Done);
     Ok(())
@@ -103,10 +117,10 @@ fn runs_end_at_their_budgets(rt: HostRuntime) -> Result<(), Fail> {
 /// A script without devices runs the same in sync mode.
 #[test]
 fn runs_in_sync_are_the_same(rt: HostRuntime) -> Result<(), Fail> {
-    let (status, output) = outcome(rt.alloc(), "run --sync", PREEMPTION)?;
+    let (status, output) = outcome(&rt, rt.alloc(), "run --sync", PREEMPTION)?;
     assert_eq!(rt; output.as_slice(), PREEMPTION_TRACE);
     assert_eq!(rt; status, Status::Done);
-    let (status, output) = outcome(rt.alloc(), "run --sync --budget 1", HELLO)?;
+    let (status, output) = outcome(&rt, rt.alloc(), "run --sync --budget 1", HELLO)?;
     assert_eq!(rt;
         output.as_slice(),
         b"0 D 1\n1 S 1 hello\n1 END budget\n".as_slice()
@@ -129,7 +143,7 @@ fn other_inputs_are_refused(rt: HostRuntime) -> Result<(), Fail> {
     ];
     for (input, line, why, text) in cases {
         for words in ["run", "check"] {
-            let (status, output) = outcome(rt.alloc(), words, input)?;
+            let (status, output) = outcome(&rt, rt.alloc(), words, input)?;
             assert_eq!(rt; output.as_slice(), text);
             assert_eq!(rt; status, Status::Refused { line, why });
             assert_eq!(rt; status.number(), 2);
@@ -138,36 +152,25 @@ fn other_inputs_are_refused(rt: HostRuntime) -> Result<(), Fail> {
     Ok(())
 }
 
-/// A run is refused at the first line that isn't built.
+/// A device call in a script without devices is answered, as any call.
 #[test]
-fn unbuilt_lines_are_refused(rt: HostRuntime) -> Result<(), Fail> {
-    for (input, line, text) in [
-        (WITH_DEVICE, 2, b"refused 2 later\n".as_slice()),
-        (LATER, 6, b"refused 6 later\n".as_slice()),
-    ] {
-        let (status, output) = outcome(rt.alloc(), "run", input)?;
-        assert_eq!(rt; output.as_slice(), text);
-        assert_eq!(rt;
-            status,
-            Status::Refused {
-                line,
-                why: Why::Later
-            }
-        );
-    }
+fn devices_may_be_missing(rt: HostRuntime) -> Result<(), Fail> {
+    let (status, output) = outcome(&rt, rt.alloc(), "run", NO_DEVICE)?;
+    assert_eq!(rt; output.as_slice(), NO_DEVICE_TRACE);
+    assert_eq!(rt; status, Status::Done);
     Ok(())
 }
 
-/// A script is printed with one space between words and without what doesn't count, unbuilt lines and all.
+/// A script is printed with one space between words and without what doesn't count.
 #[test]
 fn scripts_are_printed(rt: HostRuntime) -> Result<(), Fail> {
     for (input, form) in [
         (LOOSE, PLAIN),
         (HELLO, HELLO),
         (WITH_DEVICE, WITH_DEVICE),
-        (LATER, LATER_FORM),
+        (NO_DEVICE, NO_DEVICE_FORM),
     ] {
-        let (status, output) = outcome(rt.alloc(), "check", input)?;
+        let (status, output) = outcome(&rt, rt.alloc(), "check", input)?;
         assert_eq!(rt; output.as_slice(), form);
         assert_eq!(rt; status, Status::Done);
     }
@@ -198,7 +201,14 @@ fn other_words_are_usage(rt: HostRuntime) -> Result<(), Fail> {
         let words = words_of(rt.alloc(), line)?;
         let mut source = MemSource::new(rt.alloc(), HELLO, &[])?;
         let mut sink = MemSink::new(rt.alloc(), 64, &[])?;
-        let status = program(rt.alloc(), &words, &mut source, &mut sink);
+        let (status, _) = program(
+            &rt,
+            rt.alloc(),
+            &words,
+            &mut source,
+            &mut sink,
+            &mut StdSpawner::new(),
+        );
         assert_eq!(rt; status, Status::Usage);
         assert_eq!(rt; status.number(), 64);
         assert_eq!(rt; sink.bytes(), b"usage\n".as_slice());
@@ -215,7 +225,14 @@ fn failed_read_writes_nothing(rt: HostRuntime) -> Result<(), Fail> {
         let words = words_of(rt.alloc(), line)?;
         let mut source = MemSource::new(rt.alloc(), HELLO, &[call])?;
         let mut sink = MemSink::new(rt.alloc(), 64, &[])?;
-        let status = program(rt.alloc(), &words, &mut source, &mut sink);
+        let (status, _) = program(
+            &rt,
+            rt.alloc(),
+            &words,
+            &mut source,
+            &mut sink,
+            &mut StdSpawner::new(),
+        );
         assert_eq!(rt; status, Status::ReadFault);
         assert_eq!(rt; status.number(), 3);
         assert_eq!(rt; source.faults(), 1);
@@ -231,7 +248,14 @@ fn failed_write_leaves_a_front(rt: HostRuntime) -> Result<(), Fail> {
     for call in [1, 2, 3] {
         let mut source = MemSource::new(rt.alloc(), PREEMPTION, &[])?;
         let mut sink = MemSink::new(rt.alloc(), 4096, &[call])?;
-        let status = program(rt.alloc(), &words, &mut source, &mut sink);
+        let (status, _) = program(
+            &rt,
+            rt.alloc(),
+            &words,
+            &mut source,
+            &mut sink,
+            &mut StdSpawner::new(),
+        );
         assert_eq!(rt; status, Status::WriteFault);
         assert_eq!(rt; status.number(), 4);
         assert_eq!(rt; sink.faults(), 1);
@@ -270,7 +294,14 @@ fn narrow_sink_takes_all(rt: HostRuntime) -> Result<(), Fail> {
     let mut narrow = Narrow {
         sink: MemSink::new(rt.alloc(), 4096, &[])?,
     };
-    let status = program(rt.alloc(), &words, &mut source, &mut narrow);
+    let (status, _) = program(
+        &rt,
+        rt.alloc(),
+        &words,
+        &mut source,
+        &mut narrow,
+        &mut StdSpawner::new(),
+    );
     assert_eq!(rt; status, Status::Done);
     assert_eq!(rt; narrow.sink.bytes(), HELLO_TRACE);
     Ok(())

@@ -62,7 +62,7 @@ fn handlers_of_time_run(rt: HostRuntime) -> Result<(), Fail> {
         ALARMS_SET_AGAIN,
         PERIOD_OF_ONE,
     ] {
-        let (status, output) = outcome(rt.alloc(), case.words, case.script)?;
+        let (status, output) = outcome(&rt, rt.alloc(), case.words, case.script)?;
         assert_eq!(rt; output.as_slice(), case.trace);
         assert_eq!(rt; status, case.status);
     }

@@ -1,8 +1,6 @@
 pub mod Appends
 pub mod Items
 pub mod Loops
-pub mod BuiltLoops
-pub mod BuiltScripts
 pub mod NameLaws
 pub mod LabelPlaces
 pub mod ArgumentLaws

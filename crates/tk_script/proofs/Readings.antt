@@ -15,8 +15,6 @@ use Rattle.tk_raw.proofs.TextTakes.{as_many_numbers, raw_takes}
 use Rattle.tk_raw.proofs.TextAgain.{raw_again}
 use Rattle.tk_script.specs.Resolving.{◌>>=◌, resolved}
 use Rattle.tk_script.specs.Reading.{answer, reading}
-use Rattle.tk_script.specs.Built.{first_unbuilt, reading_built, resolved_built, when_built}
-use Rattle.tk_types.specs.declared.why.Why.TheVariants.{Later}
 use Rattle.tk_script.proofs.ArgumentLaws.{bind_ok}
 use Rattle.tk_script.proofs.Weaving.{sure, sure_is}
 use Rattle.tk_script.proofs.ScriptLaws.{script_takes, script_again}
@@ -75,52 +73,3 @@ refusal_of (Err refusal) never = (refusal, refl)
 
 pub else_refused : (text : List ℕ) → ((script : Script) → Spells text script → ⊥) → (refusal : Refusal) × (reading text ≡ Err refusal)
 else_refused text never = refusal_of (reading text) (λ script e. never script (reading_takes text script e))
-
--- ---- what is built
-
-built_is : (line : Option ℕ) (script other : Script) → when_built line script ≡ Ok other → sure script ≡ Ok other
-built_is None script other e = e
-built_is (Some line) script other e = absurd (cc)
-
--- the second pass, and then what is built
-in_two : (text : List ℕ) (raw : Result RawScript Refusal) (script : Script) → (raw >>= resolved_built) ≡ Ok script → (raw >>= resolved) ≡ Ok script
-unfolding resolved_built
-in_two text (Err refusal) script e = absurd (cc)
-in_two text (Ok raw) script e =
-    let b = bind_ok (resolved raw) (when_built (first_unbuilt raw)) script e in
-    b.1 ∙ built_is (first_unbuilt raw) b.0 script b.2
-
-pub built_found : (text : List ℕ) (script : Script) → reading_built text ≡ Ok script → Spells text script
-unfolding reading_built reading
-built_found text script e = reading_takes text script (in_two text (raw_reading text) script e)
-
-bind_err : {A B : Type 0} (read : Result A Refusal) (next : A → Result B Refusal) (refusal : Refusal) → read ≡ Err refusal → (read >>= next) ≡ Err refusal
-bind_err (Ok x) next refusal e = absurd (cc)
-bind_err (Err other) next refusal e = cc
-
-refused_in_two : (raw : Result RawScript Refusal) (refusal : Refusal) → (raw >>= resolved) ≡ Err refusal → (raw >>= resolved_built) ≡ Err refusal
-unfolding resolved_built
-refused_in_two (Err other) refusal e = cc
-refused_in_two (Ok raw) refusal e = bind_err (resolved raw) (when_built (first_unbuilt raw)) refusal e
-
-pub refused_first : (text : List ℕ) (refusal : Refusal) → reading text ≡ Err refusal → reading_built text ≡ Err refusal
-unfolding reading_built reading
-refused_first text refusal e = refused_in_two (raw_reading text) refusal e
-
-later_only : (line : Option ℕ) (script : Script) (refusal : Refusal) → when_built line script ≡ Err refusal → refusal.1 ≡ Later
-later_only None script refusal e = absurd (cc)
-later_only (Some line) script refusal e = let same : (line, Later) ≡ refusal = cc in sym (ap (λ (r : Refusal). r.1) same)
-
-later_in_two : (raw : Result RawScript Refusal) (script : Script) (refusal : Refusal) → (raw >>= resolved) ≡ Ok script → (raw >>= resolved_built) ≡ Err refusal → refusal.1 ≡ Later
-unfolding resolved_built
-later_in_two (Err other) script refusal found e = absurd (cc)
-later_in_two (Ok raw) script refusal found e =
-    later_only (first_unbuilt raw) script refusal (sym (ap (λ o. o >>= when_built (first_unbuilt raw)) found) ∙ e)
-
-pub refused_later : (text : List ℕ) (script : Script) (refusal : Refusal) → Spells text script → reading_built text ≡ Err refusal → refusal.1 ≡ Later
-unfolding reading_built reading
-refused_later text script refusal spells e = later_in_two (raw_reading text) script refusal (reading_again text script spells) e
-
-pub found_built : (text : List ℕ) (result : Result Reading OutOfMemory) → IfOk result (λ read. read ≡ answer (reading_built text)) → IfOk result (λ read. (script : Script) → read ≡ readings.Script script → Spells text script)
-found_built text (Ok read) exact = λ script e. built_found text script (answer_ok (reading_built text) script (sym exact ∙ e))
-found_built text (Err error) exact = tt

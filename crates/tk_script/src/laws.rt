@@ -2,11 +2,8 @@
 
 ghost use Rattle.std.specs.Prelude.{◌≡◌, ◌≢◌, ◌↔◌, ◌<◌, ◌≤◌, ◌++◌, ◌∷◌, [], ℕ, List, Ok, Err, length};
 ghost use Rattle.tk_types.specs.declared.script.Script.{Script};
-ghost use Rattle.tk_types.specs.declared.why.Why.TheVariants.{Later};
 ghost use Rattle.tk_model.specs.ScriptText.{Spells, printed};
 ghost use Rattle.tk_raw.specs.RawReading.{Refusal};
-ghost use Rattle.tk_script.specs.Built.{reading_built};
-ghost use Rattle.tk_script.specs.BuiltScripts.{IsBuilt};
 ghost use Rattle.tk_script.specs.Reading.{reading};
 
 /// A text is read as a script exactly where it spells that script.
@@ -23,15 +20,6 @@ pub fn one_script()
 pub fn refused()
     ensures spelled { (text : List ℕ) (script : Script) (refusal : Refusal) → Spells text script → reading text ≡ Err refusal → ⊥ }
     ensures unspelled { (text : List ℕ) → ((script : Script) → Spells text script → ⊥) → (refusal : Refusal) × (reading text ≡ Err refusal) }
-{}
-
-/// A script that can be run is what the text spells and has nothing that isn't built, each refusal of a text stands before those of what isn't built,
-/// and a text that spells a script is read as that script or refused with the reason `later`.
-pub fn built()
-    ensures found { (text : List ℕ) (script : Script) → reading_built text ≡ Ok script → Spells text script }
-    ensures whole { (text : List ℕ) (script : Script) → reading_built text ≡ Ok script → IsBuilt script }
-    ensures first { (text : List ℕ) (refusal : Refusal) → reading text ≡ Err refusal → reading_built text ≡ Err refusal }
-    ensures later { (text : List ℕ) (script : Script) (refusal : Refusal) → Spells text script → reading_built text ≡ Err refusal → refusal.1 ≡ Later }
 {}
 
 /// The printed form of a script that a text spells is read again as that script, unless it has more bytes than a text

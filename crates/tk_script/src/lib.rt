@@ -1,7 +1,6 @@
 //! Scripts as texts: reading them and printing them.
 #![tactic(auto)]
 
-mod built;
 mod errors;
 mod labels;
 pub mod laws;
@@ -19,8 +18,7 @@ pub use print_lines::print_script;
 #[cfg(test)]
 mod tests;
 
-pub use built::first_unbuilt;
-pub use read::{read_built_script, read_script};
+pub use read::read_script;
 pub use tk_types::{
     Arg, Body, BodyKind, Boot, Condition, Device, Interrupt, Kind, Label, Operand, Operation,
     Reading, Script, Stmt,

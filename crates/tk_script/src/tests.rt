@@ -20,14 +20,6 @@ fn refused(alloc: Global, text: &str) -> Result<Option<(u32, Why)>, OutOfMemory>
     }
 }
 
-/// The same of a text that has to be built.
-fn refused_built(alloc: Global, text: &str) -> Result<Option<(u32, Why)>, OutOfMemory> {
-    match read_built_script(alloc, text.as_bytes())? {
-        Reading::Script(_) => Ok(None),
-        Reading::Refused { line, why } => Ok(Some((line, why))),
-    }
-}
-
 /// The printed form of the script that a text spells.
 fn plain_form(alloc: Global, text: &[u8]) -> Result<Option<Vec<u8>>, OutOfMemory> {
     match read_script(alloc, text)? {
@@ -120,7 +112,7 @@ fn lines_and_texts_have_a_limit(rt: HostRuntime) -> Result<(), Fail> {
 }
 
 #[test]
-fn the_first_line_not_built_is_told(rt: HostRuntime) -> Result<(), Fail> {
+fn scripts_of_all_families_are_read(rt: HostRuntime) -> Result<(), Fail> {
     let alloc = rt.alloc();
     let cases: [(&str, Option<(u32, Why)>); 11] = [
         (
@@ -137,7 +129,7 @@ fn the_first_line_not_built_is_told(rt: HostRuntime) -> Result<(), Fail> {
         ),
         (
             "utk 1\ndevice a log\nboot main 10\nbody main task\nend\n",
-            Some((2, Why::Later)),
+            None,
         ),
         (
             "utk 1\n\npace 1\nirq 1 1\nboot main 10\nbody main task\ntk_def_int 1 h\nend\nbody h hand\nreturn 0\nend\n",
@@ -153,15 +145,15 @@ fn the_first_line_not_built_is_told(rt: HostRuntime) -> Result<(), Fail> {
         ),
         (
             "utk 1\nboot main 10\nbody main task\nlabel a\n# note\ntk_cls_dev 1\nend\n",
-            Some((6, Why::Later)),
+            None,
         ),
         (
             "utk 1\nboot main 10\nbody main task\ntk_cre_mtx - 0\ntk_cre_mpl - 64\ntk_cls_dev 1\nend\n",
-            Some((6, Why::Later)),
+            None,
         ),
         (
             "utk 1\nirq 1 1\nboot main 10\nbody main task\nend\nbody h hand\ntd_hok_int 1\ntk_cls_dev 1\nend\n",
-            Some((8, Why::Later)),
+            None,
         ),
         (
             "utk 1\ndevice a log\nboot main 10\nbody main task\njump x\nend\n",
@@ -169,7 +161,7 @@ fn the_first_line_not_built_is_told(rt: HostRuntime) -> Result<(), Fail> {
         ),
     ];
     for (text, want) in cases {
-        assert_eq!(rt; refused_built(alloc, text)?, want, "{text}");
+        assert_eq!(rt; refused(alloc, text)?, want, "{text}");
     }
     Ok(())
 }

@@ -36,8 +36,6 @@ pub enum Why {
     Journal,
     /// A wrong line of a trace.
     Trace,
-    /// What a later version reads.
-    Later,
 }
 
 impl Why {
@@ -62,7 +60,6 @@ impl Why {
             Why::Kind => "kind",
             Why::Journal => "journal",
             Why::Trace => "trace",
-            Why::Later => "later",
         }
     }
 }

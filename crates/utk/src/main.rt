@@ -1,7 +1,9 @@
 //! The simulator over the standard streams: it reads a script from the standard input and writes to the standard
-//! output, by its words the trace of the run or the printed form. The exit status says how the call ended.
+//! output, by its words the trace of the run or the printed form. The drivers of devices run on threads. The exit status says how
+//! the call ended.
 #![tactic(auto)]
 
+use dev_drivers::StdSpawner;
 use std::alloc::Global;
 use std::env;
 use std::io::ErrorKind;
@@ -32,6 +34,14 @@ fn main(rt: HostRuntime) -> ExitCode {
     };
     let mut source = StdSource::new(&rt);
     let mut sink = StdSink::new(&rt);
-    let status = program(rt.alloc(), &words, &mut source, &mut sink);
+    let mut spawner = StdSpawner::new();
+    let (status, _record) = program(
+        &rt,
+        rt.alloc(),
+        &words,
+        &mut source,
+        &mut sink,
+        &mut spawner,
+    );
     ExitCode::from(status.number())
 }

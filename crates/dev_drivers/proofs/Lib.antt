@@ -1,0 +1,7 @@
+pub mod Steps
+pub mod Devices
+pub mod Wholes
+pub mod Links
+pub mod Lines
+pub mod Closes
+pub mod Fleets

@@ -1,0 +1,7 @@
+use Rattle.dev_drivers.proofs.Fleets.{fleet_on}
+use Rattle.dev_drivers.proofs.Lines.{kept_on}
+use Rattle.dev_drivers.proofs.fleet.Fleet.poll.Goals as goal
+
+pub invariant_of-self : goal.invariant_of-self
+invariant_of-self g c = fleet_on g.P.Started.job_of c.self.inside.lines.items _ c.self.inside.kept.items _ c.self.invariant
+    (kept_on c.self.inside.lines.items _ _ c.flush_all.ensures.flushed.kept c.pop_first-ending.ensures.kept)

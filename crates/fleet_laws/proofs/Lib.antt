@@ -1,0 +1,14 @@
+pub mod Gathers
+pub mod Growing
+pub mod OneRoad
+pub mod Room
+pub mod DriverRuns
+pub mod Sorted
+pub mod Devices
+pub mod Points
+pub mod Kernel
+pub mod Arriving
+pub mod Closing
+pub mod Walk
+pub mod Begins
+pub mod Worked

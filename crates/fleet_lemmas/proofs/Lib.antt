@@ -1,0 +1,4 @@
+pub mod Channels
+pub mod Passings
+pub mod Follows
+pub mod Closes

@@ -1,0 +1,3 @@
+pub mod Passings
+pub mod Told
+pub mod SoFar

@@ -1,6 +1,0 @@
--- A text that was read has bodies of few lines.
-use Rattle.tk_script.proofs.ShortBodies.{spelled_short}
-use Rattle.tk_script.proofs.read.answer_built_text.Goals as goal
-
-pub answer_resolved_built-requires : goal.answer_resolved_built-requires
-answer_resolved_built-requires c = spelled_short c.args.text.now c.in-Raw.raw (c.in_ok-raw.ensures.found c.in-Raw.raw c.in-Raw.is)

@@ -1,0 +1,11 @@
+pub mod Ways
+pub mod Slots
+pub mod Outs
+pub mod Sounds
+pub mod Waiting
+pub mod Channels
+pub mod Fleets
+pub mod SyncWalk
+pub mod SyncLinks
+pub mod Sync
+pub mod SyncRuns
