@@ -111,7 +111,7 @@ trace_tells script mode budget so least is =
     let front = front_of script mode budget so least is in
     let told = front_told script mode budget so.entries in
     let all : journal_of (lines_of (trace script mode budget so.entries)) ≡ so.entries ++ journal_of front.0 =
-        ap journal_of front.1 ∙ filter_map-append entry_of so.lines front.0 ∙ ap (λ (mine : List Entry). mine ++ journal_of front.0) (told_so_far script mode budget so is) in
+    ap journal_of front.1 ∙ filter_map-append entry_of so.lines front.0 ∙ ap (λ (mine : List Entry). mine ++ journal_of front.0) (told_so_far script mode budget so is) in
     let none : journal_of front.0 ≡ [] = none_behind so.entries (journal_of front.0) told.0 (told.1 ∙ ap (λ (mine : List Entry). mine ++ told.0) all) in
     all ∙ ap (λ (back : List Entry). so.entries ++ back) none ∙ append-nil so.entries
 

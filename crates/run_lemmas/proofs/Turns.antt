@@ -177,8 +177,8 @@ sync_passes_waits next script budget st waiting (entry ∷ later) needed again t
     let rest : State → List Passing = λ now. entered_passed next later (named_ending now entry) (entered script modes.Sync now entry) in
     ap (passing.sync_pace next script st (entry ∷ later)) needed
     ∙ ap (λ (back : List Passing). gives waiting ++ back) (sym (ap (passing.sync_pace next script (taken waiting) (entry ∷ later)) again
-        ∙ ap (λ (front : List Passing). front ++ rest (taken (taken waiting))) (none_given (taken waiting) twice)
-        ∙ ap rest twice))
+    ∙ ap (λ (front : List Passing). front ++ rest (taken (taken waiting))) (none_given (taken waiting) twice)
+    ∙ ap rest twice))
 
 pub turn_passes_waits : (next : passing.Rest) (script : Script) (mode : Mode) (budget : ℕ) (st waiting : State) (later : List Entry) → taken st ≡ st → step script mode budget st ≡ Needs waiting →
     turn next script mode budget st later ≡ gives waiting ++ turn next script mode budget (taken waiting) later

@@ -142,7 +142,7 @@ run_counted script mode budget fleet old new (statuses.Refused line why) r = abs
 front_fits : (script : Script) (mode : Mode) (budget : ℕ) (all : List Line) (room : ℕ) → HasRoom script mode budget room → IsFrontOf script mode budget all → length (text_of_lines all) ≤ room
 front_fits script mode budget all room has f =
     let size : length (text_of_lines (lines_of (trace script mode budget f.entries))) ≡ length (text_of_lines all) + length (text_of_lines f.rest) =
-        ap (λ (l : List Line). length (text_of_lines l)) f.is ∙ (ap (λ (t : List ℕ). length t) (lines_append all f.rest) ∙ length-append (text_of_lines all) (text_of_lines f.rest)) in
+    ap (λ (l : List Line). length (text_of_lines l)) f.is ∙ (ap (λ (t : List ℕ). length t) (lines_append all f.rest) ∙ length-append (text_of_lines all) (text_of_lines f.rest)) in
     omega (arith, size, has f.entries)
 
 over_fits : (script : Script) (mode : Mode) (budget : ℕ) (all : List Line) (end : End) (fleet : Fleet) (room : ℕ) → HasRoom script mode budget room → IsOver script mode budget all end [] fleet → length (text_of_lines all) ≤ room

@@ -121,8 +121,8 @@ pub breaks_run : (script : Script) (mode : Mode) (budget : ℕ) (failure : Unwri
 breaks_run script mode budget failure status first old new machine fleet next r b is =
     failed_status script mode budget failure status next first new
     (breaks_by script mode budget (r.so.lines ++ b.before) b.lines failure next first b.middle new
-        (subst (IsFrontOf script mode budget) (sym (append_assoc r.so.lines b.before b.lines)) b.front)
-        (took_lines first old b.middle r.so.lines b.before r.written b.written) b.unwritten b.places)
+    (subst (IsFrontOf script mode budget) (sym (append_assoc r.so.lines b.before b.lines)) b.front)
+    (took_lines first old b.middle r.so.lines b.before r.written b.written) b.unwritten b.places)
     is
 
 -- a run that is stopped where it is has written a front of its trace

@@ -30,12 +30,7 @@ use tk_ports::{Sink, Source};
 /// or the printed form with `Done`. Each written line ends with a line
 /// feed. `WriteFault`, where the sink failed, and `NoMemory` may stand in the place of what would have followed; then a
 /// front of those bytes was written. Only a `run` with devices may wait, for a driver.
-pub fn program<
-    R: Threads + Wait + Copy + Send + Sync + 'static,
-    S: Source,
-    K: Sink,
-    P: Spawner<R>,
->(
+pub fn program<R: Threads + Wait + Copy + Send + Sync + 'static, S: Source, K: Sink, P: Spawner<R>>(
     rt: &R,
     alloc: Global,
     words: &[String],

@@ -41,7 +41,8 @@ const NO_DEVICE: &[u8] =
 
 const NO_DEVICE_TRACE: &[u8] = b"0 D 1\n1 S 1 a\n2 C 1 tk_cls_dev E_ID\n3 END halt\n";
 
-const NO_DEVICE_FORM: &[u8] = b"utk 1\nboot main 10\nbody main task\nsay a\ntk_cls_dev 1\nhalt\nend\n";
+const NO_DEVICE_FORM: &[u8] =
+    b"utk 1\nboot main 10\nbody main task\nsay a\ntk_cls_dev 1\nhalt\nend\n";
 
 const OPEN_BODY: &[u8] = b"utk 1\nboot main 10\nbody main task\ntk_ext_tsk\n";
 
@@ -70,14 +71,7 @@ pub(crate) fn outcome<R: Threads + Wait + Copy + Send + Sync + 'static>(
     let mut source = MemSource::new(alloc, input, &[])?;
     let mut sink = MemSink::new(alloc, 4096, &[])?;
     let mut spawner = StdSpawner::new();
-    let (status, _) = program(
-        rt,
-        alloc,
-        &words,
-        &mut source,
-        &mut sink,
-        &mut spawner,
-    );
+    let (status, _) = program(rt, alloc, &words, &mut source, &mut sink, &mut spawner);
     let output = Vec::from_slice(alloc, sink.bytes())?;
     Ok((status, output))
 }
