@@ -2,6 +2,7 @@ pub mod Wholes
 pub mod Logs
 pub mod Jobs
 pub mod Spawning
+pub mod Starts
 pub mod Links
 pub mod Lines
 pub mod Closings

@@ -1,14 +1,14 @@
 //! The calls of a fleet.
 
 ghost use Rattle.std.specs.Prelude.{◌≡◌, ◌<◌, ◌-◌, ◌≤◌, Some, length};
-ghost use Rattle.fleet_model.specs.Fleets.{EachHasPlace, HasChannel, HasPlace, Handed, IsOfFleet, Polled, Waited, after_drop, device_of};
+ghost use Rattle.fleet_model.specs.Fleets.{EachHasPlace, HasChannel, HasPlace, Handed, IsOfFleet, Polled, Waited, after_drop, device_of, may_accept};
 ghost use Rattle.fleet_model.specs.Records.{Closes};
 ghost use Rattle.dev_drivers.specs.Wholes.{HasWhole};
 
 use crate::closing::close_all;
 use crate::fleet::Fleet;
 use crate::record::FleetRecord;
-use crate::rows::{await_first, await_of, flush_all, hand_at, mark_at, pop_first};
+use crate::rows::{accepts_at, await_first, await_of, flush_all, hand_at, mark_at, pop_first};
 use crate::spawner::{Spawner, Started};
 use device_model::messages::{Ending, Message};
 use std::sync::Wait;
@@ -61,6 +61,14 @@ impl<P: Started> Fleet<P> {
         ensures device { result.device ≡ device }
     {
         await_of(rt, &self.parker, &mut self.lines, device)
+    }
+
+    /// Whether an ending may go to the machine: the kernel has put as many messages into the inbox of its device as the driver had
+    /// taken, no request waits to go there, and no earlier ending of the device was dropped.
+    pub fn may_accept(&self, ending: &Ending) -> bool
+        ensures { result ≡ may_accept self.now ending.now }
+    {
+        accepts_at(&self.lines, ending)
     }
 
     /// Counts an ending that is dropped, and marks its device, if it is one of the fleet.

@@ -27,6 +27,7 @@ pub(crate) fn close_link(link: Link, log: DriverLog) -> Closed
         device,
         kind,
         mut to,
+        gone: _,
         waiting: _,
         mut from,
         count,

@@ -2,12 +2,23 @@
 
 ghost use Rattle.std.specs.Prelude.{◌≡◌, ◌<◌, ◌+◌, ◌⊎◌, true, false, [], vec_len, length, IfSome, IfNone};
 ghost use Rattle.rtrb.specs.Ring.{known_items};
-ghost use Rattle.fleet_model.specs.Channels.{marked, with_ending};
+ghost use Rattle.fleet_model.specs.Channels.{accepts, is_serve, marked, with_ending};
 ghost use Rattle.dev_drivers.specs.Links.{Flushed, HandedTo, IsFlushed, SameLink, channel_of};
 ghost use Rattle.dev_drivers.specs.Wholes.{HasWhole};
 
 use crate::link::Link;
 use device_model::messages::{Ending, Message};
+
+/// Whether a message brings a request.
+fn is_serve(m: &Message) -> bool
+    ensures { result ≡ is_serve m.now }
+{
+    match m {
+        Message::Serve { .. } => true,
+        Message::Abort { .. } => false,
+        Message::Stop { .. } => false,
+    }
+}
 
 impl Link {
     /// Puts the first of the messages that wait into the inbox, where it has room, and wakes the driver. Answers whether one went.
@@ -21,6 +32,7 @@ impl Link {
         }
         let m = self.waiting.remove(0);
         self.to.push_reserved(m);
+        self.gone = self.gone.saturating_add(1);
         self.driver.unpark();
         true
     }
@@ -61,6 +73,14 @@ impl Link {
         self.count = self.count.saturating_add(1);
         self.driver.unpark();
         Some(ending)
+    }
+
+    /// Whether an ending can be what its request came to: the inbox has received as many messages as the driver had taken, no
+    /// request waits to go there, and no earlier ending was dropped.
+    pub(crate) fn accepts(&self, ending: &Ending) -> bool
+        ensures { result ≡ accepts (channel_of self.now) ending.now }
+    {
+        ending.taken <= self.gone && !self.waiting.iter().any(is_serve) && !self.dropped
     }
 
     /// An ending of the device was dropped.

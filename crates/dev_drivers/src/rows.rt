@@ -121,6 +121,17 @@ fn is_there<H: Drop>(lines: &Vec<Driven<H>>, device: u8) -> bool
     device != 0 && usize::from(device) <= lines.len()
 }
 
+/// Whether an ending can be what its request came to, as far as the kernel sees of its device.
+pub(crate) fn accepts_at<H: Drop>(lines: &Vec<Driven<H>>, ending: &Ending) -> bool
+    requires numbered { devices_of lines.now.items ≡ numbers 1 (vec_len lines.now) }
+    ensures { result ≡ accepts_in (channels_of lines.now.items) ending.now }
+{
+    is_there(lines, ending.device)
+        && lines[usize::from(ending.device) - 1]
+            .link
+            .accepts(ending)
+}
+
 /// Marks a device, if it is one of the fleet.
 pub(crate) fn mark_at<H: Drop>(lines: &mut Vec<Driven<H>>, device: u8)
     requires numbered { devices_of lines.old.items ≡ numbers 1 (vec_len lines.old) }

@@ -7,10 +7,11 @@ use crate::log::DriverLog;
 use crate::spawner::{Spawner, Started};
 use crate::tally::Tally;
 use crate::threads::{AnyGate, OfJob, start_gated};
-use std::alloc::{AllocError, Global};
+use std::alloc::Global;
 use std::sync::{Arc, Wait};
 use std::thread::{PromisedHandle, Threads};
 use tk_ports::Failed;
+use tk_types::OutOfMemory;
 
 /// Starts each driver on a thread of the process, with the gate that the spawner was made with. It refuses the starts on its list.
 #[derive(Drop)]
@@ -23,9 +24,8 @@ pub struct TestSpawner {
 }
 
 impl TestSpawner {
-    /// No driver was started yet.  `fails` lists the numbers of the starts that are to be
-    /// refused, counted from 1.
-    pub fn new(alloc: Global, gate: AnyGate, fails: &[u64]) -> Result<TestSpawner, AllocError>
+    /// No driver was started yet. `fails` lists the numbers of the starts that are to be refused, counted from 1.
+    pub fn new(alloc: Global, gate: AnyGate, fails: &[u64]) -> Result<TestSpawner, OutOfMemory>
         ensures { IfOk result (λ spawner. spawner.fails.items ≡ fails.now) }
     {
         Ok(TestSpawner {

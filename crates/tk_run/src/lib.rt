@@ -5,6 +5,8 @@ mod checking;
 mod command;
 #[cfg(test)]
 mod context_runs;
+#[cfg(test)]
+mod driver_runs;
 mod entry;
 mod fleet_run;
 mod fleet_turn;

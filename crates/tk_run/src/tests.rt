@@ -52,7 +52,7 @@ const NO_LABEL: &[u8] =
 const BAD_NUMBER: &[u8] = b"utk 1\nboot main 10\nbody main task\ntk_slp_tsk 01\nend\n";
 
 /// The words of a line as the program gets them.
-fn words_of(alloc: Global, line: &str) -> Result<Vec<String>, OutOfMemory> {
+pub(crate) fn words_of(alloc: Global, line: &str) -> Result<Vec<String>, OutOfMemory> {
     let mut words = Vec::new(alloc);
     for word in line.split_whitespace() {
         words.push(String::from_str(alloc, word)?)?;
