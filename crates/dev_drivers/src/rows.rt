@@ -2,7 +2,7 @@
 
 ghost use Rattle.std.specs.Prelude.{◌≡◌, ◌<◌, ◌≤◌, ◌+◌, vec_len, IfSome, true, false};
 ghost use Rattle.std.specs.List.{slice_index_or};
-ghost use Rattle.fleet_model.specs.Fleets.{device_of, taken_out};
+ghost use Rattle.fleet_model.specs.Fleets.{Fleet, device_of, may_accept, taken_out};
 ghost use Rattle.dev_drivers.specs.FleetFacts.{CameOut, HandedIn, HasPlaceIn, MarkedIn};
 ghost use Rattle.dev_drivers.specs.Wholes.{HasWhole};
 ghost use Rattle.dev_drivers.specs.Lines.{AllFlushed, Kept, channels_of, devices_of, numbers};
@@ -124,7 +124,7 @@ fn is_there<H: Drop>(lines: &Vec<Driven<H>>, device: u8) -> bool
 /// Whether an ending can be what its request came to, as far as the kernel sees of its device.
 pub(crate) fn accepts_at<H: Drop>(lines: &Vec<Driven<H>>, ending: &Ending) -> bool
     requires numbered { devices_of lines.now.items ≡ numbers 1 (vec_len lines.now) }
-    ensures { result ≡ accepts_in (channels_of lines.now.items) ending.now }
+    ensures { (fleet : Fleet) → fleet.channels ≡ channels_of lines.now.items → result ≡ may_accept fleet ending.now }
 {
     is_there(lines, ending.device)
         && lines[usize::from(ending.device) - 1]
