@@ -1,3 +1,4 @@
+pub mod Accepts
 pub mod Steps
 pub mod Devices
 pub mod Wholes

@@ -1,8 +1,9 @@
 //! What the kernel does with the rings of a device.
 
-ghost use Rattle.std.specs.Prelude.{◌≡◌, ◌<◌, ◌+◌, ◌⊎◌, true, false, [], vec_len, length, IfSome, IfNone};
+ghost use Rattle.std.specs.Prelude.{◌≡◌, ◌<◌, ◌+◌, ◌⊎◌, true, false, [], vec_len, length, nat_le, IfSome, IfNone};
+ghost use Rattle.std.specs.List.{list_any};
 ghost use Rattle.rtrb.specs.Ring.{known_items};
-ghost use Rattle.fleet_model.specs.Channels.{accepts, is_serve, marked, with_ending};
+ghost use Rattle.fleet_model.specs.Channels.{accepts, gone, is_serve, marked, with_ending};
 ghost use Rattle.dev_drivers.specs.Links.{Flushed, HandedTo, IsFlushed, SameLink, channel_of};
 ghost use Rattle.dev_drivers.specs.Wholes.{HasWhole};
 
@@ -75,12 +76,29 @@ impl Link {
         Some(ending)
     }
 
+    /// Whether the inbox has received as many messages as these. No ending tells of more than the greatest `u64`.
+    fn has_received(&self, taken: u64) -> bool
+        ensures { result ≡ nat_le taken (gone (channel_of self.now)) }
+    {
+        taken <= self.gone
+    }
+
+    /// Whether a request waits to go into the inbox.
+    fn holds_request(&self) -> bool
+        ensures { result ≡ list_any is_serve (channel_of self.now).waiting }
+    {
+        self.waiting.iter().any(is_serve)
+    }
+
     /// Whether an ending can be what its request came to: the inbox has received as many messages as the driver had taken, no
     /// request waits to go there, and no earlier ending was dropped.
     pub(crate) fn accepts(&self, ending: &Ending) -> bool
         ensures { result ≡ accepts (channel_of self.now) ending.now }
     {
-        ending.taken <= self.gone && !self.waiting.iter().any(is_serve) && !self.dropped
+        if !self.has_received(ending.taken) {
+            return false;
+        }
+        !self.holds_request() && !self.dropped
     }
 
     /// An ending of the device was dropped.

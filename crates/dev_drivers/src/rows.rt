@@ -123,7 +123,6 @@ fn is_there<H: Drop>(lines: &Vec<Driven<H>>, device: u8) -> bool
 
 /// Whether an ending can be what its request came to, as far as the kernel sees of its device.
 pub(crate) fn accepts_at<H: Drop>(lines: &Vec<Driven<H>>, ending: &Ending) -> bool
-    requires numbered { devices_of lines.now.items ≡ numbers 1 (vec_len lines.now) }
     ensures { (fleet : Fleet) → fleet.channels ≡ channels_of lines.now.items → result ≡ may_accept fleet ending.now }
 {
     is_there(lines, ending.device)

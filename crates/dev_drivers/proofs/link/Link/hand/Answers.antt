@@ -9,6 +9,7 @@ pub invariant_of-self : goal.invariant_of-self
 invariant_of-self c = record {
   whole = rw c.push_reserved.ensures.items (whole_snoc c.args.self.now.waiting.items c.args.m c.args.self.now.whole c.requires.whole);
   room = omega arith;
+  went = c.args.self.now.went;
   counted = c.args.self.now.counted;
 }
 
