@@ -1,6 +1,8 @@
 -- A turn of a run with drivers: what a step came to, and what is passed on.
-use Rattle.std.proofs.Common.{◌≡◌, ℕ, ◌+◌, ◌≤◌, List, [], ◌∷◌, ◌++◌, length, Option, Some, None, Result, Ok, Err, refl, ap, sym, subst, ◌∙◌, arith}
+use Rattle.std.proofs.Common.{◌≡◌, ℕ, ◌+◌, ◌≤◌, Bool, true, List, [], ◌∷◌, ◌++◌, length, Option, Some, None, Result, Ok, Err, refl, ap, sym, subst, ◌∙◌, arith}
 use Rattle.std.proofs.lemmas.List.{append-nil, length-append}
+use Rattle.std.specs.Prelude.{IsErrAnd, OnErr, OnOk}
+use Rattle.tk_types.specs.declared.memory.OutOfMemory.{OutOfMemory}
 use Rattle.tk_types.specs.declared.line.Line.{Line}
 use Rattle.tk_types.specs.declared.line.Line.TheVariants as lines
 use Rattle.tk_types.specs.declared.run.End.{End}
@@ -255,3 +257,62 @@ taken_breaks script mode budget so machine fleet now old new failure run t took 
       unwritten = took;
       places = subst (λ (f : Fleet). EachHasPlace f.channels) (sym same) (coming_waits script mode budget after t.event.lines _ None 1 machine fleet t.coming);
     }
+
+-- ---- what the machine and the fleet say of an offer
+
+pub offered : (old new : Fleet) (machine now : Machine) (e : Ending) (result : Result Bool OutOfMemory) (answer should : Bool) → OfferAnswers old new machine now e result → result ≡ Ok answer → answer ≡ should →
+    OfferAnswers old new machine now e (Ok should)
+offered old new machine now e result answer should is ok same = subst (OfferAnswers old new machine now e) (ok ∙ ap (λ (b : Bool). let r : Result Bool OutOfMemory = Ok b in r) same) is
+
+pub offer_fails : (old new : Fleet) (machine now : Machine) (e : Ending) (result : Result Bool OutOfMemory) (error : OutOfMemory) → OfferAnswers old new machine now e result → result ≡ Err error → new ≡ old
+offer_fails old new machine now e result error is err = let failed : OfferAnswers old new machine now e (Err error) = subst (OfferAnswers old new machine now e) err is in failed.0
+
+pub offer_taken : (script : Script) (mode : Mode) (budget : ℕ) (so : SoFar) (machine now : Machine) (old new : Fleet) (e : Ending) → IsFleetRun script budget → Going script mode budget so (Some e) 1 machine old →
+    OfferAnswers old new machine now e (Ok true) → TakenIn script mode budget so 1 now new
+offer_taken script mode budget so machine now old new e run g is = subst (TakenIn script mode budget so 1 now) (sym is.2) (takes_coming script mode budget so 1 machine now old e run.runnable g is.0 is.1)
+
+pub taken_may : (script : Script) (mode : Mode) (budget : ℕ) (so : SoFar) (machine : Machine) (fleet : Fleet) → TakenIn script mode budget so 1 machine fleet → MayHand fleet machine.messages
+taken_may script mode budget so machine fleet t = coming_may script mode budget (after_ending so t.named t.event) t.event.lines _ None 1 machine fleet t.coming
+
+pub taken_answers : (script : Script) (mode : Mode) (budget : ℕ) (so : SoFar) (machine now : Machine) (fleet next : Fleet) (old new : Held) (result : Result (Unit {0}) Unwritten) → IsFleetRun script budget →
+    TakenIn script mode budget so 1 machine fleet → TakeAnswers old new (text_of_lines machine.lines) result → OnOk result (now ≡ record machine { lines = []; messages = [] }) → OnOk result (Hands fleet machine.messages next []) →
+    OnErr result (next ≡ fleet) → StepAnswers script mode budget so now next old new result
+taken_answers script mode budget so machine now fleet next old new (Ok done) run t took made h same = taken_goes_on script mode budget so machine now fleet next old new t took h made
+taken_answers script mode budget so machine now fleet next old new (Err failure) run t took made h same = taken_breaks script mode budget so machine fleet next old new failure run t took same
+
+pub drop_breaks : (script : Script) (mode : Mode) (budget : ℕ) (so : SoFar) (machine : Machine) (old new : Fleet) (e : Ending) (held : Held) → IsFleetRun script budget → Going script mode budget so (Some e) 1 machine old → new ≡ old →
+    BreaksOff script mode budget so failures.NoMemory new held held
+drop_breaks script mode budget so machine old new e held run g same =
+    subst (λ (f : Fleet). BreaksOff script mode budget so failures.NoMemory f held held) (sym same) (breaks_here script mode budget so (Some e) 1 machine old held run g)
+
+-- a device has a channel still
+pub still_served : (d n : ℕ) (before now : Fleet) → (1 ≤ d) × (d ≤ length before.channels) → n ≡ d → length now.channels ≡ length before.channels → (1 ≤ n) × (n ≤ length now.channels)
+still_served d n before now is same many = (omega (arith, is.0, same), omega (arith, is.1, same, many))
+
+-- ---- a turn gives its answer
+
+pub breaks_so : (script : Script) (mode : Mode) (budget : ℕ) (so : SoFar) (machine : Machine) (fleet : Fleet) (old new : Held) (failure : Unwritten) (result : Result (Option End) Unwritten) → IsErrAnd result (λ (f : Unwritten). f ≡ failure) →
+    BreaksOff script mode budget so failure fleet old new → TurnAnswers script mode budget so machine fleet old new result
+breaks_so script mode budget so machine fleet old new failure (Ok end) is b = absurd is
+breaks_so script mode budget so machine fleet old new failure (Err other) is b = subst (λ (f : Unwritten). BreaksOff script mode budget so f fleet old new) (sym is) b
+
+-- a machine that goes on has the script, the mode and the budget of its run
+pub own_going : (script : Script) (mode : Mode) (budget : ℕ) (so : SoFar) (pending : Option Ending) (more : ℕ) (machine : Machine) (fleet : Fleet) → IsFleetRun script budget → Going script mode budget so pending more machine fleet →
+    IsGoing machine.script machine.mode machine.budget pending more machine fleet
+own_going script mode budget so pending more machine fleet run g =
+    subst (λ (m : Machine). IsGoing m.script m.mode m.budget pending more machine fleet) (sym g.machine_is) (record { run = run; so = so; going = g })
+
+pub own_step : (script : Script) (mode : Mode) (budget : ℕ) (so : SoFar) (e : Ending) (machine now : Machine) (fleet next : Fleet) (old new : Held) (result : Result (Unit {0}) Unwritten) → Going script mode budget so (Some e) 1 machine fleet →
+    (Going machine.script machine.mode machine.budget so (Some e) 1 machine fleet → StepAnswers machine.script machine.mode machine.budget so now next old new result) → StepAnswers script mode budget so now next old new result
+own_step script mode budget so e machine now fleet next old new result g answers =
+    subst (λ (m : Machine). Going m.script m.mode m.budget so (Some e) 1 machine fleet → StepAnswers m.script m.mode m.budget so now next old new result) g.machine_is answers g
+
+pub own_turn : (script : Script) (mode : Mode) (budget : ℕ) (so : SoFar) (machine now : Machine) (fleet next : Fleet) (old new : Held) (result : Result (Option End) Unwritten) → Going script mode budget so None 0 machine fleet →
+    (Going machine.script machine.mode machine.budget so None 0 machine fleet → TurnAnswers machine.script machine.mode machine.budget so now next old new result) → TurnAnswers script mode budget so now next old new result
+own_turn script mode budget so machine now fleet next old new result g answers =
+    subst (λ (m : Machine). Going m.script m.mode m.budget so None 0 machine fleet → TurnAnswers m.script m.mode m.budget so now next old new result) g.machine_is answers g
+
+pub waited_going : (script : Script) (mode : Mode) (budget : ℕ) (so : SoFar) (machine now : Machine) (old new : Fleet) (e : Ending) → Going script mode budget so None 1 machine old → Waited old new (Some e) → IsOfFleet old (Some e) → now ≡ machine →
+    Going script mode budget so (Some e) 1 now new
+waited_going script mode budget so machine now old new e g waited of same =
+    subst (λ (m : Machine). Going script mode budget so (Some e) 1 m new) (sym same) (waits_going script mode budget so 1 machine old new (Some e) waited of g)
