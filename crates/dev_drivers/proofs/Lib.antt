@@ -6,3 +6,4 @@ pub mod Links
 pub mod Lines
 pub mod Closes
 pub mod Fleets
+pub mod Starts

@@ -6,7 +6,7 @@ ghost use Rattle.dev_units.specs.Views.{IsRightKind};
 ghost use Rattle.fleet_model.specs.Fleets.{fleet_start};
 ghost use Rattle.tk_ports.specs.Streams.{Rose};
 ghost use Rattle.dev_drivers.specs.FleetFacts.{AreDevices};
-ghost use Rattle.dev_drivers.specs.Starts.{AreStarted, HasGrown};
+ghost use Rattle.dev_drivers.specs.Starts.{AreStarted, HasGrown, OneMore};
 ghost use Rattle.dev_drivers.specs.declared.outcome.Start.TheVariants as why;
 
 use crate::closed::Closed;
@@ -31,6 +31,18 @@ fn start_next<R: Threads + Wait + Copy + Send + Sync + 'static, P: Spawner<R>>(
     device: &Device,
     lines: &mut Vec<Driven<P::Handle>>,
 ) -> Result<(), Start>
+    requires kind { IsRightKind device.now.kind }
+    requires few { vec_len lines.old < 8 }
+    requires room { vec_len lines.old < vec_capacity lines.old }
+    ensures one { OnOk result (OneMore P.job_of device.now lines.old.items lines.new.items) }
+    ensures none { OnErr result (lines.new.items ≡ lines.old.items) }
+    ensures capacity { vec_capacity lines.new ≡ vec_capacity lines.old }
+    ensures running { OnOk result (P.running spawner.new ≡ P.running spawner.old + 1) }
+    ensures same_running { OnErr result (P.running spawner.new ≡ P.running spawner.old) }
+    ensures starts { OnOk result (Rose (P.start_count spawner.old) (P.start_count spawner.new)) }
+    ensures refused { IfErr result (λ refusal. refusal ≡ why.Refused → Rose (P.refusal_count spawner.old) (P.refusal_count spawner.new)) }
+    ensures starts_stay { P.start_count spawner.old ≤ P.start_count spawner.new }
+    ensures refusals_stay { P.refusal_count spawner.old ≤ P.refusal_count spawner.new }
 {
     let number = lines.len() as u8 + 1;
     let Ok(kernel) = kernel.unparker().clone() else {
@@ -55,9 +67,20 @@ fn start_all<R: Threads + Wait + Copy + Send + Sync + 'static, P: Spawner<R>>(
     devices: &[Device],
     lines: &mut Vec<Driven<P::Handle>>,
 ) -> Result<(), Start>
+    requires kinds { All (λ device. IsRightKind device.kind) devices.now }
+    requires few { length devices.now ≤ 8 }
+    requires none { lines.old.items ≡ [] }
+    requires room { length devices.now ≤ vec_capacity lines.old }
+    ensures started { AreStarted P.job_of devices.now lines.new.items }
+    ensures all { OnOk result (vec_len lines.new ≡ length devices.now) }
+    ensures running { P.running spawner.new ≡ P.running spawner.old + vec_len lines.new }
+    ensures starts { HasGrown (P.start_count spawner.old) (P.start_count spawner.new) (vec_len lines.new) }
+    ensures refused { IfErr result (λ refusal. refusal ≡ why.Refused → Rose (P.refusal_count spawner.old) (P.refusal_count spawner.new)) }
+    ensures starts_stay { P.start_count spawner.old ≤ P.start_count spawner.new }
+    ensures refusals_stay { P.refusal_count spawner.old ≤ P.refusal_count spawner.new }
 {
-    'devices: for device in devices {
-        start_next(rt, alloc, spawner, kernel, device, lines)?;
+    'devices: for i in 0..devices.len() {
+        start_next(rt, alloc, spawner, kernel, &devices[i], lines)?;
     }
     Ok(())
 }
