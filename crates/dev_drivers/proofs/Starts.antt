@@ -1,7 +1,7 @@
 -- What the starts of drivers come to, one after another.
 use Rattle.std.proofs.Common.{◌≡◌, ℕ, ◌+◌, ◌<◌, ◌≤◌, ◌⊎◌, inl, inr, zero, suc, List, [], ◌∷◌, ◌++◌, length, map, take, get_or, refl, ap, subst, sym, ◌∙◌, arith}
 use Rattle.std.specs.List.{All}
-use Rattle.std.proofs.lemmas.List.Elements.{All-append}
+use Rattle.std.proofs.lemmas.List.Elements.{All-nil, All-push, All-weaker}
 use Rattle.std.proofs.lemmas.List.{length-append, map-append}
 use Rattle.std.proofs.Math.Seq.{take-length, take-suc}
 use Rattle.tk_types.specs.declared.script.Device.{Device}
@@ -28,8 +28,7 @@ right_kind (Flaky size each) is = record { size = is.0; has_turns = is.1 }
 right_kind (Slow size turns) is = record { size = is; has_turns = tt }
 
 pub right_kinds : (devices : List Device) → All (λ (d : Device). IsKind d.kind) devices → All (λ (d : Device). IsRightKind d.kind) devices
-right_kinds [] all = tt
-right_kinds (d ∷ devices) all = (right_kind d.kind all.0, right_kinds devices all.1)
+right_kinds devices all = All-weaker (λ (d : Device). IsKind d.kind) (λ (d : Device). IsRightKind d.kind) (λ d is. right_kind d.kind is) devices all
 
 -- ---- counts
 
@@ -47,7 +46,7 @@ grown_stays a b c n k (inr most) stays is = inr (omega (arith, most, stays))
 
 -- ---- lines
 
-numbers_on : (first n : ℕ) → numbers first (n + 1) ≡ numbers first n ++ (first + n) ∷ []
+numbers_on : (first n : ℕ) → numbers first (suc n) ≡ numbers first n ++ (first + n) ∷ []
 numbers_on first zero = ap (λ (k : ℕ). k ∷ []) (let e : first ≡ first + 0 = omega arith in e)
 numbers_on first (suc n) =
     ap (λ (l : List ℕ). first ∷ l) (numbers_on (suc first) n ∙ ap (λ (k : ℕ). numbers (suc first) n ++ k ∷ []) (let e : suc first + n ≡ first + suc n = omega arith in e))
@@ -59,15 +58,18 @@ places_at_start (d ∷ devices) = (omega arith, places_at_start devices)
 
 module _ {H : Type 0} where
   pub started_none : (job_of : H → DriverJob) (devices : List Device) (lines : List (Driven H)) → lines ≡ [] → AreStarted job_of devices lines
-  started_none job_of devices lines none = subst (λ (l : List (Driven H)). AreStarted job_of devices l) (sym none) (record { few = omega arith; channels = refl; linked = tt; numbered = refl })
+  started_none job_of devices lines none = subst (λ (l : List (Driven H)). AreStarted job_of devices l) (sym none) (record { few = omega arith; channels = refl; linked = All-nil (λ (d : Driven H). IsLinkOf (job_of d.driver) d.link); numbered = refl })
 
   pub started_stays : (job_of : H → DriverJob) (devices : List Device) (before after : List (Driven H)) → AreStarted job_of devices before → after ≡ before → AreStarted job_of devices after
   started_stays job_of devices before after is same = subst (λ (l : List (Driven H)). AreStarted job_of devices l) (sym same) is
 
+  pub one_longer : (job_of : H → DriverJob) (device : Device) (before after : List (Driven H)) → OneMore job_of device before after → length after ≡ length before + 1
+  one_longer job_of device before after one = ap (λ (l : List (Driven H)). length l) one.is ∙ length-append before (one.next ∷ [])
+
   pub started_on : (job_of : H → DriverJob) (devices : List Device) (before after : List (Driven H)) (device : Device) (i : ℕ) → AreStarted job_of devices before → length before ≡ i → i < length devices →
       device ≡ get_or devices i device → OneMore job_of device before after → AreStarted job_of devices after
   started_on job_of devices before after device i is many few at one =
-      let more : length after ≡ length before + 1 = ap (λ (l : List (Driven H)). length l) one.is ∙ length-append before (one.next ∷ []) in
+      let more : length after ≡ length before + 1 = one_longer job_of device before after one in
       let next : take (length before + 1) devices ≡ take (length before) devices ++ device ∷ [] =
           ap (λ (n : ℕ). take n devices) (let e : length before + 1 ≡ suc (length before) = omega arith in e)
           ∙ (take-suc devices (length before) device (omega (arith, many, few))
@@ -80,12 +82,12 @@ module _ {H : Type 0} where
             ∙ (ap (λ (c : Channel). map channel_start (take (length before) devices) ++ c ∷ []) one.channel
             ∙ (sym (map-append channel_start (take (length before) devices) (device ∷ []))
             ∙ ap (λ (l : List Device). map channel_start l) (sym next ∙ ap (λ (n : ℕ). take n devices) (sym more))))));
-        linked = subst (λ (l : List (Driven H)). EachLinked job_of l) (sym one.is) (All-append (λ (d : Driven H). IsLinkOf (job_of d.driver) d.link) before (one.next ∷ []) is.linked (one.linked, tt));
+        linked = subst (λ (l : List (Driven H)). EachLinked job_of l) (sym one.is) (All-push (λ (d : Driven H). IsLinkOf (job_of d.driver) d.link) before one.next is.linked one.linked);
         numbered = ap (λ (l : List (Driven H)). devices_of l) one.is
             ∙ (map-append (λ (d : Driven H). d.link.device) before (one.next ∷ [])
             ∙ (ap (λ (l : List ℕ). l ++ one.next.link.device ∷ []) is.numbered
             ∙ (ap (λ (n : ℕ). numbers 1 (length before) ++ n ∷ []) (one.number ∙ (let e : length before + 1 ≡ 1 + length before = omega arith in e))
-            ∙ (sym (numbers_on 1 (length before)) ∙ ap (λ (n : ℕ). numbers 1 n) (sym more)))));
+            ∙ (sym (numbers_on 1 (length before)) ∙ ap (λ (n : ℕ). numbers 1 n) (let e : suc (length before) ≡ length after = omega (arith, more) in e)))));
       }
 
   -- ---- a fleet
