@@ -1,5 +1,5 @@
 -- What the starts of drivers come to, one after another.
-use Rattle.std.proofs.Common.{◌≡◌, ℕ, ◌+◌, ◌<◌, ◌≤◌, ◌⊎◌, inl, inr, zero, suc, List, [], ◌∷◌, ◌++◌, length, map, take, get_or, refl, ap, subst, sym, ◌∙◌, arith}
+use Rattle.std.proofs.Common.{◌≡◌, ℕ, ◌+◌, ◌<◌, ◌≤◌, inl, inr, zero, suc, List, [], ◌∷◌, ◌++◌, length, map, take, get_or, refl, ap, subst, sym, ◌∙◌, arith}
 use Rattle.std.specs.List.{All}
 use Rattle.std.proofs.lemmas.List.Elements.{All-nil, All-push, All-weaker}
 use Rattle.std.proofs.lemmas.List.{length-append, map-append}
@@ -71,9 +71,9 @@ module _ {H : Type 0} where
   started_on job_of devices before after device i is many few at one =
       let more : length after ≡ length before + 1 = one_longer job_of device before after one in
       let next : take (length before + 1) devices ≡ take (length before) devices ++ device ∷ [] =
-          ap (λ (n : ℕ). take n devices) (let e : length before + 1 ≡ suc (length before) = omega arith in e)
-          ∙ (take-suc devices (length before) device (omega (arith, many, few))
-          ∙ ap (λ (d : Device). take (length before) devices ++ d ∷ []) (ap (λ (n : ℕ). get_or devices n device) many ∙ sym at)) in
+      ap (λ (n : ℕ). take n devices) (let e : length before + 1 ≡ suc (length before) = omega arith in e)
+      ∙ (take-suc devices (length before) device (omega (arith, many, few))
+      ∙ ap (λ (d : Device). take (length before) devices ++ d ∷ []) (ap (λ (n : ℕ). get_or devices n device) many ∙ sym at)) in
       record {
         few = omega (arith, more, many, few);
         channels = ap (λ (l : List (Driven H)). channels_of l) one.is

@@ -124,7 +124,14 @@ impl<P: Started> Fleet<P> {
         let Ok((mut lines, kept, parker)) = rooms(alloc, script.devices.len()) else {
             return Err(Start::OutOfMemory);
         };
-        match start_all(rt, alloc, spawner, &parker, script.devices.as_slice(), &mut lines) {
+        match start_all(
+            rt,
+            alloc,
+            spawner,
+            &parker,
+            script.devices.as_slice(),
+            &mut lines,
+        ) {
             Ok(()) => Ok(Fleet {
                 lines,
                 kept,

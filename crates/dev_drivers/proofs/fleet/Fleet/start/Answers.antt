@@ -1,4 +1,4 @@
-use Rattle.dev_drivers.proofs.Starts.{fleet_is, fleet_starts, places_of, right_kinds}
+use Rattle.dev_drivers.proofs.Starts.{places_of}
 use Rattle.dev_drivers.proofs.fleet.Fleet.start.Goals as goal
 
 pub close_all-requires-clause-places : goal.close_all-requires-clause-places
