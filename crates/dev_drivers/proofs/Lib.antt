@@ -7,3 +7,4 @@ pub mod Lines
 pub mod Closes
 pub mod Fleets
 pub mod Starts
+pub mod Places

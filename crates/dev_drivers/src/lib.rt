@@ -21,6 +21,8 @@ mod starting;
 mod std_spawner;
 mod tally;
 mod test_spawner;
+#[cfg(test)]
+mod tests;
 mod threads;
 mod turns;
 mod worker;
