@@ -11,7 +11,7 @@ use Rattle.fleet_model.specs.Fleets.{EachHasPlace, Fleet, Handed, HasPlace, Poll
 use Rattle.fleet_model.specs.Records.{Closes, Joined, Record}
 
 -- at most so many wait for each device
-AtMost : ℕ → List Channel → Type 0
+abbrev AtMost : ℕ → List Channel → Type 0
 AtMost most [] = Unit {0}
 AtMost most (channel ∷ channels) = (length channel.waiting ≤ most) × AtMost most channels
 
@@ -49,7 +49,7 @@ put_length zero (o ∷ channels) c = refl
 put_length (suc i) (o ∷ channels) c = ap suc (put_length i channels c)
 
 -- a change that lets at most so many wait where at most that many did
-Lets : (Channel → Channel) → ℕ → ℕ → Type 0
+abbrev Lets : (Channel → Channel) → ℕ → ℕ → Type 0
 Lets change j k = (c : Channel) → length c.waiting ≤ j → length (change c).waiting ≤ k
 
 changed : (change : Channel → Channel) (j k : ℕ) (channels : List Channel) (d : ℕ) → j ≤ k → Lets change j k → AtMost j channels → AtMost k (changed_at change channels d)
