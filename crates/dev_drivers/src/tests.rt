@@ -170,7 +170,10 @@ fn a_thread_serves_a_request(rt: HostRuntime) -> Result<(), Fail> {
     let (ending, kept) = served(&rt, alloc, &mut spawner, &script, write(alloc)?)?;
     let ending = ending.ok_or("an ending")?;
     assert_eq!(rt; (ending.device, ending.request, ending.number), (1, 5, 1));
-    assert_eq!(rt; (ending.how, ending.size, ending.error), (How::Done, 200, Er::Ok));
+    assert_eq!(rt;
+        (ending.how, ending.size, ending.error),
+        (How::Done, 200, Er::Ok)
+    );
     assert_eq!(rt; ending.taken, 1);
     let counts = Counts {
         handed: 2,
@@ -210,7 +213,10 @@ fn a_refused_start_joins_the_others(rt: HostRuntime) -> Result<(), Fail> {
     let mut spawner = TestSpawner::new(alloc, gate, &[3])?;
     let refusal = closed(&rt, alloc, &mut spawner, &script).err();
     assert_eq!(rt; refusal, Some(Start::Refused));
-    assert_eq!(rt; (spawner.starts(), spawner.refusals(), spawner.joins()), (2, 1, 2));
+    assert_eq!(rt;
+        (spawner.starts(), spawner.refusals(), spawner.joins()),
+        (2, 1, 2)
+    );
     Ok(())
 }
 
@@ -230,7 +236,10 @@ fn an_abort_cuts_a_request_off(rt: HostRuntime) -> Result<(), Fail> {
     let ending = ending.ok_or("an ending")?;
     // the driver may have passed the gate before the first block, and no further
     assert!(rt; matches!(ending.how, How::Cut(0 | 64)));
-    assert_eq!(rt; (ending.number, ending.error, ending.taken), (1, Er::Abort, 2));
+    assert_eq!(rt;
+        (ending.number, ending.error, ending.taken),
+        (1, Er::Abort, 2)
+    );
     assert_eq!(rt; spawner.joins(), 1);
     Ok(())
 }
