@@ -316,3 +316,14 @@ pub waited_going : (script : Script) (mode : Mode) (budget : ℕ) (so : SoFar) (
     Going script mode budget so (Some e) 1 now new
 waited_going script mode budget so machine now old new e g waited of same =
     subst (λ (m : Machine). Going script mode budget so (Some e) 1 m new) (sym same) (waits_going script mode budget so 1 machine old new (Some e) waited of g)
+
+-- the answer of a turn, once its parts are known
+pub turn_gives : (script : Script) (mode : Mode) (budget : ℕ) (so : SoFar) (machine : Machine) (fleet : Fleet) (old new : Held) (result : Result (Option End) Unwritten) (slot should : Option End) →
+    TurnAnswers script mode budget so machine fleet old new result → result ≡ Ok slot → slot ≡ should → TurnAnswers script mode budget so machine fleet old new (Ok should)
+turn_gives script mode budget so machine fleet old new result slot should answers is same =
+    subst (TurnAnswers script mode budget so machine fleet old new) (is ∙ ap (λ (o : Option End). let r : Result (Option End) Unwritten = Ok o in r) same) answers
+
+pub turn_fails : (script : Script) (mode : Mode) (budget : ℕ) (so : SoFar) (machine : Machine) (fleet : Fleet) (old new : Held) (result : Result (Option End) Unwritten) (failure : Unwritten) →
+    TurnAnswers script mode budget so machine fleet old new result → result ≡ Err failure → BreaksOff script mode budget so failure fleet old new
+turn_fails script mode budget so machine fleet old new result failure answers is =
+    let failed : TurnAnswers script mode budget so machine fleet old new (Err failure) = subst (TurnAnswers script mode budget so machine fleet old new) is answers in failed
