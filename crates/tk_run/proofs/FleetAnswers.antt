@@ -14,11 +14,13 @@ use Rattle.tk_types.specs.declared.run.Mode.{Mode}
 use Rattle.tk_types.specs.declared.run.Mode.TheVariants as modes
 use Rattle.tk_types.specs.declared.script.Device.{Device}
 use Rattle.tk_types.specs.declared.script.Script.{Script}
-use Rattle.fleet_model.specs.Fleets.{EachHasPlace, Fleet, most_counted}
+use Rattle.fleet_model.specs.Fleets.{EachHasPlace, Fleet, fleet_start, most_counted}
 use Rattle.fleet_model.specs.Records.{AreJoined, Closes, Record}
 use Rattle.fleet_lemmas.proofs.Closes.{closes_tells}
+use Rattle.machine_model.specs.Runs.Machine.{Machine, new_machine}
 use Rattle.machine_model.specs.Runs.SyncTrace.{sync_trace}
-use Rattle.machine_model.specs.Runs.Trace.{Trace, last_of, lines_of, trace}
+use Rattle.machine_model.specs.Runs.Trace.{Trace, last_of, lines_of, start, trace}
+use Rattle.run_model.specs.SoFar.{first_so_far}
 use Rattle.run_model.specs.Told.{Tells}
 use Rattle.tk_model.specs.Journal.{journal_of}
 use Rattle.tk_model.specs.LineText.{text_of_lines}
@@ -27,9 +29,11 @@ use Rattle.tk_ports.proofs.Streams.{front_none, front_within}
 use Rattle.tk_trace.proofs.Growth.{lines_append}
 use Rattle.turn_lemmas.specs.Going.{IsFrontOf, IsOver}
 use Rattle.turn_lemmas.proofs.Ends.{over_front, over_places}
+use Rattle.turn_lemmas.proofs.Moves.{coming_start, coming_waits}
 use Rattle.tk_run.specs.Answers.{IsDone}
 use Rattle.tk_run.specs.FleetRuns.{Held, RunBreaksOff, RunEnds, RunsDone, RunsToEnd}
 use Rattle.tk_run.specs.Runs.{HasRoom, IsRunOf, RecordTells, ScriptAnswers, StartsAnswers, WritesFront, WritesRun, has_devices}
+use Rattle.tk_run.proofs.FleetTurns.{over_close}
 use Rattle.tk_run.specs.declared.status.Status.{Status}
 use Rattle.tk_run.specs.declared.status.Status.TheVariants as statuses
 use Rattle.tk_run.specs.declared.writing.Unwritten.{Unwritten}
@@ -110,14 +114,28 @@ pub run_places : (script : Script) (mode : Mode) (budget : ℕ) (fleet : Fleet) 
 run_places script mode budget fleet old new statuses.Done (inl r) = over_places script mode budget r.lines ends.Idle fleet r.over
 run_places script mode budget fleet old new statuses.Done (inr r) = over_places script mode budget r.lines ends.Halt fleet r.over
 run_places script mode budget fleet old new statuses.Budget r = over_places script mode budget r.lines ends.Budget fleet r.over
-run_places script mode budget fleet old new statuses.WriteFault r = r.places
-run_places script mode budget fleet old new statuses.NoMemory r = r.places
+run_places script mode budget fleet old new statuses.WriteFault r = r.places.places
+run_places script mode budget fleet old new statuses.NoMemory r = r.places.places
 run_places script mode budget fleet old new statuses.NoThread r = absurd r
 run_places script mode budget fleet old new statuses.ReadFault r = absurd r
 run_places script mode budget fleet old new statuses.Starved r = absurd r
 run_places script mode budget fleet old new statuses.Usage r = absurd r
 run_places script mode budget fleet old new (statuses.Unfit entry) r = absurd r
 run_places script mode budget fleet old new (statuses.Refused line why) r = absurd r
+
+-- there is a channel for each device
+pub run_many : (script : Script) (mode : Mode) (budget : ℕ) (fleet : Fleet) (old new : Held) (status : Status) → RunEnds script mode budget fleet old new status → length fleet.channels ≡ length script.devices
+run_many script mode budget fleet old new statuses.Done (inl r) = (over_close script mode budget r.lines ends.Idle [] fleet r.over).many
+run_many script mode budget fleet old new statuses.Done (inr r) = (over_close script mode budget r.lines ends.Halt [] fleet r.over).many
+run_many script mode budget fleet old new statuses.Budget r = (over_close script mode budget r.lines ends.Budget [] fleet r.over).many
+run_many script mode budget fleet old new statuses.WriteFault r = r.places.many
+run_many script mode budget fleet old new statuses.NoMemory r = r.places.many
+run_many script mode budget fleet old new statuses.NoThread r = absurd r
+run_many script mode budget fleet old new statuses.ReadFault r = absurd r
+run_many script mode budget fleet old new statuses.Starved r = absurd r
+run_many script mode budget fleet old new statuses.Usage r = absurd r
+run_many script mode budget fleet old new (statuses.Unfit entry) r = absurd r
+run_many script mode budget fleet old new (statuses.Refused line why) r = absurd r
 
 -- the count of faults rose where the sink failed, and never falls
 pub record Counted (old new : Held) (status : Status) : Type 0 where
@@ -163,3 +181,14 @@ run_sure script mode budget fleet old new statuses.Starved r has = absurd r
 run_sure script mode budget fleet old new statuses.Usage r has = absurd r
 run_sure script mode budget fleet old new (statuses.Unfit entry) r has = absurd r
 run_sure script mode budget fleet old new (statuses.Refused line why) r has = absurd r
+
+-- ---- the fleet at the start, and the machine of the run
+
+pub start_places : (script : Script) (mode : Mode) (budget : ℕ) (fleet : Fleet) → fleet ≡ fleet_start script.devices → EachHasPlace fleet.channels
+start_places script mode budget fleet same =
+    subst (λ (f : Fleet). EachHasPlace f.channels) (sym same)
+    (coming_waits script mode budget (first_so_far script) (start script).lines [] None 0 (new_machine script mode budget) (fleet_start script.devices) (coming_start script mode budget))
+
+pub own_ends : (script : Script) (mode : Mode) (budget : ℕ) (machine : Machine) (fleet : Fleet) (old new : Held) (status : Status) → machine ≡ new_machine script mode budget →
+    RunEnds machine.script mode machine.budget fleet old new status → RunEnds script mode budget fleet old new status
+own_ends script mode budget machine fleet old new status same is = subst (λ (m : Machine). RunEnds m.script mode m.budget fleet old new status) same is

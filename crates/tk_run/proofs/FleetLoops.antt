@@ -18,14 +18,14 @@ use Rattle.tk_trace.proofs.Growth.{lines_append}
 use Rattle.turn_lemmas.specs.Going.{Coming, Going, Hands, IsFleetRun, IsFrontOf, IsGoing, IsOver, MayHand}
 use Rattle.turn_lemmas.proofs.Ends.{so_far_front}
 use Rattle.turn_lemmas.proofs.Moves.{coming_may, coming_start, coming_waits, handed_going}
-use Rattle.tk_run.specs.FleetRuns.{BreaksOff, EndsSo, GoesOn, Held, RunBreaksOff, RunEnds, RunsDone, RunsToEnd, TakeAnswers, Took, TookFront}
+use Rattle.tk_run.specs.FleetRuns.{BreaksOff, EndsSo, GoesOn, Held, MayClose, RunBreaksOff, RunEnds, RunsDone, RunsToEnd, TakeAnswers, Took, TookFront}
 use Rattle.tk_run.specs.Outcomes.{status_of_end}
 use Rattle.tk_run.specs.Replays.{WriteAnswers, failure_status}
 use Rattle.tk_run.specs.declared.status.Status.{Status}
 use Rattle.tk_run.specs.declared.status.Status.TheVariants as statuses
 use Rattle.tk_run.specs.declared.writing.Unwritten.{Unwritten}
 use Rattle.tk_run.specs.declared.writing.Unwritten.TheVariants as failures
-use Rattle.tk_run.proofs.FleetTurns.{breaks_here, took_lines, took_nothing}
+use Rattle.tk_run.proofs.FleetTurns.{breaks_here, coming_close, took_lines, took_nothing}
 
 -- a run on its way, and what the sink took since it began
 pub record IsRunningOn (script : Script) (mode : Mode) (budget : ℕ) (first now : Held) (machine : Machine) (fleet : Fleet) : Type 0 where
@@ -59,7 +59,7 @@ front_taken middle new bytes failures.WriteFault answer = answer
 front_taken middle new bytes failures.NoMemory answer = subst (λ (held : Option (List ℕ)). AppendsFront middle.bytes held bytes) (sym answer) (front_none middle.bytes bytes)
 
 breaks_by : (script : Script) (mode : Mode) (budget : ℕ) (before lines : List Line) (failure : Unwritten) (fleet : Fleet) (old middle new : Held) → IsFrontOf script mode budget (before ++ lines) → Took old middle (text_of_lines before) →
-    TookFront middle new (text_of_lines lines) failure → EachHasPlace fleet.channels → RunBreaksOff script mode budget failure fleet old new
+    TookFront middle new (text_of_lines lines) failure → MayClose script fleet → RunBreaksOff script mode budget failure fleet old new
 breaks_by script mode budget before lines failure fleet old middle new front took rest places =
     let joined : text_of_lines (before ++ lines) ≡ text_of_lines before ++ text_of_lines lines = lines_append before lines in
     let size : length (text_of_lines (before ++ lines)) ≡ length (text_of_lines before) + length (text_of_lines lines) = ap (λ (t : List ℕ). length t) joined ∙ length-append (text_of_lines before) (text_of_lines lines) in
@@ -83,7 +83,7 @@ breaks_first script mode budget machine fleet now old new failure run is made re
     let c = coming_start script mode budget in
     breaks_by script mode budget [] (start script).lines failure now old old new (so_far_front script mode budget (first_so_far script) run c.so_far) (took_nothing old)
     (subst (λ (l : List Line). TookFront old new (text_of_lines l) failure) (ap (λ (m : Machine). m.lines) is) rest)
-    (subst (λ (f : Fleet). EachHasPlace f.channels) (sym (same ∙ made)) (coming_waits script mode budget (first_so_far script) (start script).lines [] None 0 (new_machine script mode budget) (fleet_start script.devices) c))
+    (subst (MayClose script) (sym (same ∙ made)) (coming_close script mode budget (first_so_far script) (start script).lines [] None 0 (new_machine script mode budget) (fleet_start script.devices) c))
 
 -- ---- a turn
 

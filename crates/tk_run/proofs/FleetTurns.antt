@@ -1,6 +1,6 @@
 -- A turn of a run with drivers: what a step came to, and what is passed on.
 use Rattle.std.proofs.Common.{◌≡◌, ℕ, ◌+◌, ◌≤◌, Bool, true, List, [], ◌∷◌, ◌++◌, length, Option, Some, None, Result, Ok, Err, refl, ap, sym, subst, ◌∙◌, arith}
-use Rattle.std.proofs.lemmas.List.{append-nil, length-append}
+use Rattle.std.proofs.lemmas.List.{append-nil, length-append, length-map}
 use Rattle.std.specs.Prelude.{IsErrAnd, OnErr, OnOk}
 use Rattle.tk_types.specs.declared.memory.OutOfMemory.{OutOfMemory}
 use Rattle.tk_types.specs.declared.line.Line.{Line}
@@ -12,6 +12,9 @@ use Rattle.tk_types.specs.declared.script.Script.{Script}
 use Rattle.device_model.specs.declared.messages.Ending.{Ending}
 use Rattle.device_model.specs.declared.messages.Message.{Message}
 use Rattle.device_model.specs.Devices.Handing.{messages}
+use Rattle.tk_types.specs.declared.script.Device.{Device}
+use Rattle.tk_types.specs.declared.script.Kind.{Kind}
+use Rattle.fleet_model.specs.Channels.{Channel}
 use Rattle.fleet_model.specs.Fleets.{EachHasPlace, Fleet, IsOfFleet, Polled, Waited, after_drop, may_accept}
 use Rattle.machine_model.specs.States.State.{State}
 use Rattle.machine_model.specs.Events.Follow.{Event}
@@ -29,7 +32,7 @@ use Rattle.tk_trace.proofs.Growth.{lines_append}
 use Rattle.turn_lemmas.specs.Going.{Coming, Going, Hands, IsFleetRun, IsFrontOf, IsGoing, IsOver, MayHand, OfferAnswers, going}
 use Rattle.turn_lemmas.proofs.Ends.{idle_over, over_handed, over_may, over_front, over_waits, so_far_front, went_over}
 use Rattle.turn_lemmas.proofs.Moves.{TakenIn, coming_may, coming_waits, drops_going, fewer_going, going_places, handed_going, needs_comes, polls_going, takes_coming, waits_going, went_comes}
-use Rattle.tk_run.specs.FleetRuns.{BreaksOff, EndsSo, GoesOn, Held, StepAnswers, TakeAnswers, Took, TookFront, TurnAnswers}
+use Rattle.tk_run.specs.FleetRuns.{BreaksOff, EndsSo, GoesOn, Held, MayClose, StepAnswers, TakeAnswers, Took, TookFront, TurnAnswers}
 use Rattle.tk_run.specs.declared.writing.Unwritten.{Unwritten}
 use Rattle.tk_run.specs.declared.writing.Unwritten.TheVariants as failures
 
@@ -117,10 +120,19 @@ stepped_front script mode budget so new fleet pace run (needed waiting c is) =
     subst (IsFrontOf script mode budget) (sym (append-nil so.lines) ∙ ap (λ (l : List Line). so.lines ++ l) (sym (coming_lines script mode budget (after_need so waiting) [] _ None 1 new fleet c))) (so_far_front script mode budget (after_need so waiting) run c.so_far)
 stepped_front script mode budget so new fleet pace run (is_over end o is) = over_front script mode budget (so.lines ++ new.lines) end new.messages fleet o
 
-stepped_waits : (script : Script) (mode : Mode) (budget : ℕ) (so : SoFar) (new : Machine) (fleet : Fleet) (pace : Pace) → Stepped script mode budget so new fleet pace → EachHasPlace fleet.channels
-stepped_waits script mode budget so new fleet pace (went event c is) = coming_waits script mode budget (after_event so event) event.lines _ None 0 new fleet c
-stepped_waits script mode budget so new fleet pace (needed waiting c is) = coming_waits script mode budget (after_need so waiting) [] _ None 1 new fleet c
-stepped_waits script mode budget so new fleet pace (is_over end o is) = over_waits script mode budget (so.lines ++ new.lines) end new.messages fleet o
+pub coming_close : (script : Script) (mode : Mode) (budget : ℕ) (so : SoFar) (all : List Line) (ms : List Message) (pending : Option Ending) (more : ℕ) (machine : Machine) (fleet : Fleet) → Coming script mode budget so all ms pending more machine fleet → MayClose script fleet
+coming_close script mode budget so all ms pending more machine fleet c = record { places = coming_waits script mode budget so all ms pending more machine fleet c; many = c.many }
+
+pub over_close : (script : Script) (mode : Mode) (budget : ℕ) (all : List Line) (end : End) (ms : List Message) (fleet : Fleet) → IsOver script mode budget all end ms fleet → MayClose script fleet
+over_close script mode budget all end ms fleet o = record {
+  places = over_waits script mode budget all end ms fleet o;
+  many = sym (length-map fleet.channels (λ (c : Channel). c.kind)) ∙ (ap (λ (ks : List Kind). length ks) o.kinds ∙ length-map script.devices (λ (d : Device). d.kind));
+}
+
+stepped_close : (script : Script) (mode : Mode) (budget : ℕ) (so : SoFar) (new : Machine) (fleet : Fleet) (pace : Pace) → Stepped script mode budget so new fleet pace → MayClose script fleet
+stepped_close script mode budget so new fleet pace (went event c is) = coming_close script mode budget (after_event so event) event.lines _ None 0 new fleet c
+stepped_close script mode budget so new fleet pace (needed waiting c is) = coming_close script mode budget (after_need so waiting) [] _ None 1 new fleet c
+stepped_close script mode budget so new fleet pace (is_over end o is) = over_close script mode budget (so.lines ++ new.lines) end new.messages fleet o
 
 -- its lines weren't written
 pub step_breaks : (script : Script) (mode : Mode) (budget : ℕ) (so : SoFar) (machine : Machine) (fleet now : Fleet) (pace : Pace) (old new : Held) (failure : Unwritten) → IsFleetRun script budget →
@@ -132,7 +144,7 @@ step_breaks script mode budget so machine fleet now pace old new failure run s t
   front = stepped_front script mode budget so machine fleet pace run s;
   written = took_nothing old;
   unwritten = took;
-  places = subst (λ (f : Fleet). EachHasPlace f.channels) (sym same) (stepped_waits script mode budget so machine fleet pace s);
+  places = subst (MayClose script) (sym same) (stepped_close script mode budget so machine fleet pace s);
 }
 
 -- the host's memory ran out in it
@@ -145,7 +157,7 @@ breaks_here script mode budget so pending more machine fleet held run g = record
   front = subst (IsFrontOf script mode budget) (sym (append-nil so.lines)) (so_far_front script mode budget so run g.so_far);
   written = took_nothing held;
   unwritten = unwritten held;
-  places = going_places script mode budget so pending more machine fleet g;
+  places = coming_close script mode budget so [] [] pending more machine fleet g;
 }
 
 wrong : (pace one other : Pace) → pace ≡ one → pace ≡ other → one ≡ other
@@ -255,7 +267,7 @@ taken_breaks script mode budget so machine fleet now old new failure run t took 
       front = subst (λ (l : List Line). IsFrontOf script mode budget (so.lines ++ l)) (sym (coming_lines script mode budget after t.event.lines _ None 1 machine fleet t.coming)) (so_far_front script mode budget after run t.coming.so_far);
       written = took_nothing old;
       unwritten = took;
-      places = subst (λ (f : Fleet). EachHasPlace f.channels) (sym same) (coming_waits script mode budget after t.event.lines _ None 1 machine fleet t.coming);
+      places = subst (MayClose script) (sym same) (coming_close script mode budget after t.event.lines _ None 1 machine fleet t.coming);
     }
 
 -- ---- what the machine and the fleet say of an offer

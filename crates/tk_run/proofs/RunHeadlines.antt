@@ -1,6 +1,6 @@
 -- What a run answers, by what was read, gives what it answers by the input, and the headline.
 use Rattle.std.specs.Prelude.{not, ◌==◌}
-use Rattle.std.proofs.Common.{◌≡◌, ◌≤◌, ℕ, false, List, [], length, Option, Some, None, IfSome, refl, ap, sym, subst, ◌∙◌, arith}
+use Rattle.std.proofs.Common.{◌≡◌, ◌≤◌, ℕ, false, List, [], ◌∷◌, length, Option, Some, None, IfSome, refl, ap, sym, subst, ◌∙◌, arith}
 use Rattle.tk_types.specs.declared.line.LastLine.{LastLine}
 use Rattle.tk_types.specs.declared.line.LastLine.TheVariants as lasts
 use Rattle.tk_types.specs.declared.run.Mode.{Mode}
@@ -28,6 +28,11 @@ use Rattle.tk_run.proofs.Readings.{spelled}
 use Rattle.tk_run.proofs.Told.{told_then}
 
 -- ---- a run without devices
+
+pub none_there : (devices : List Device) → (length devices == 0) ≡ true → devices ≡ []
+none_there [] is = refl
+none_there (device ∷ devices) is = absurd (cc is)
+
 
 abbrev alone_run : Script → Mode → ℕ → Trace
 alone_run script mode budget = trace script mode budget []
@@ -80,7 +85,7 @@ alone_script script mode budget old new (statuses.Refused line why) runnable low
 -- ---- by the input
 
 -- nothing was written, since the host's memory ran out before the run
-nothing_front : (script : Script) (mode : Mode) (budget : ℕ) (held : Option (List ℕ)) → 1 ≤ budget → WritesFront script mode budget held held
+pub nothing_front : (script : Script) (mode : Mode) (budget : ℕ) (held : Option (List ℕ)) → 1 ≤ budget → WritesFront script mode budget held held
 nothing_front script mode budget held low = record {
   run = alone_run script mode budget;
   own = alone_own script mode budget low;

@@ -61,6 +61,11 @@ pub record EndsSo (script : Script) (mode : Mode) (budget : ℕ) (so : SoFar) (e
   pub over : IsOver script mode budget (so.lines ++ lines) end [] fleet
   pub written : Took old new (text_of_lines lines)
 
+-- there is a channel for each device, and each has a place for a Stop
+pub record MayClose (script : Script) (fleet : Fleet) : Type 0 where
+  pub places : EachHasPlace fleet.channels
+  pub many : length fleet.channels ≡ length script.devices
+
 -- lines weren't written, or the host's memory ran out; those before them were written
 pub record BreaksOff (script : Script) (mode : Mode) (budget : ℕ) (so : SoFar) (failure : Unwritten) (fleet : Fleet) (old new : Held) : Type 0 where
   pub before : List Line
@@ -69,7 +74,7 @@ pub record BreaksOff (script : Script) (mode : Mode) (budget : ℕ) (so : SoFar)
   pub front : IsFrontOf script mode budget (so.lines ++ (before ++ lines))
   pub written : Took old middle (text_of_lines before)
   pub unwritten : TookFront middle new (text_of_lines lines) failure
-  pub places : EachHasPlace fleet.channels
+  pub places : MayClose script fleet
 
 abbrev pub StepAnswers : Script → Mode → ℕ → SoFar → Machine → Fleet → Held → Held → Result (Unit {0}) Unwritten → Type 0
 StepAnswers script mode budget so machine fleet old new (Ok done) = GoesOn script mode budget so machine fleet old new
@@ -96,7 +101,7 @@ pub record RunBreaksOff (script : Script) (mode : Mode) (budget : ℕ) (failure 
   pub rose : failure ≡ failures.WriteFault → Rose old.faults new.faults
   pub faults_stay : old.faults ≤ new.faults
   pub certain : length (text_of_lines lines) ≤ old.room → (failure ≢ failures.WriteFault) × (new.faults ≡ old.faults)
-  pub places : EachHasPlace fleet.channels
+  pub places : MayClose script fleet
 
 abbrev pub RunsDone : Script → Mode → ℕ → Fleet → Held → Held → Type 0
 RunsDone script mode budget fleet old new = RunsToEnd script mode budget ends.Idle fleet old new ⊎ RunsToEnd script mode budget ends.Halt fleet old new
