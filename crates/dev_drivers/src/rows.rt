@@ -125,10 +125,7 @@ fn is_there<H: Drop>(lines: &Vec<Driven<H>>, device: u8) -> bool
 pub(crate) fn accepts_at<H: Drop>(lines: &Vec<Driven<H>>, ending: &Ending) -> bool
     ensures { (fleet : Fleet) → fleet.channels ≡ channels_of lines.now.items → result ≡ may_accept fleet ending.now }
 {
-    is_there(lines, ending.device)
-        && lines[usize::from(ending.device) - 1]
-            .link
-            .accepts(ending)
+    is_there(lines, ending.device) && lines[usize::from(ending.device) - 1].link.accepts(ending)
 }
 
 /// Marks a device, if it is one of the fleet.

@@ -33,7 +33,6 @@ pub none_there : (devices : List Device) → (length devices == 0) ≡ true → 
 none_there [] is = refl
 none_there (device ∷ devices) is = absurd (cc is)
 
-
 abbrev alone_run : Script → Mode → ℕ → Trace
 alone_run script mode budget = trace script mode budget []
 
