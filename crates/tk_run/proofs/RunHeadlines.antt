@@ -1,6 +1,7 @@
 -- What a run answers, by what was read, gives what it answers by the input, and the headline.
 use Rattle.std.specs.Prelude.{not, ◌==◌}
-use Rattle.std.proofs.Common.{◌≡◌, ◌≤◌, ℕ, false, List, [], ◌∷◌, length, Option, Some, None, IfSome, refl, ap, sym, subst, ◌∙◌, arith}
+use Rattle.std.proofs.lemmas.Bool.Decides.{nat_tests}
+use Rattle.std.proofs.Common.{◌≡◌, ◌≤◌, ℕ, false, true, List, [], ◌∷◌, length, Option, Some, None, IfSome, refl, ap, sym, subst, ◌∙◌, arith}
 use Rattle.tk_types.specs.declared.line.LastLine.{LastLine}
 use Rattle.tk_types.specs.declared.line.LastLine.TheVariants as lasts
 use Rattle.tk_types.specs.declared.run.Mode.{Mode}
@@ -31,7 +32,7 @@ use Rattle.tk_run.proofs.Told.{told_then}
 
 pub none_there : (devices : List Device) → (length devices == 0) ≡ true → devices ≡ []
 none_there [] is = refl
-none_there (device ∷ devices) is = absurd (cc is)
+none_there (device ∷ devices) is = let zero : length (device ∷ devices) ≡ 0 = grind (arith, nat_tests, is) in absurd (omega (arith, zero))
 
 abbrev alone_run : Script → Mode → ℕ → Trace
 alone_run script mode budget = trace script mode budget []
@@ -96,6 +97,10 @@ nothing_front script mode budget held low = record {
 pub nothing_read : (mode : Mode) (budget : ℕ) (read : Reading) (held : Option (List ℕ)) → 1 ≤ budget → ReadingAnswers mode budget read held held statuses.NoMemory None
 nothing_read mode budget (readings.Script script) held low = nothing_front script mode budget held low
 nothing_read mode budget (readings.Refused line why) held low = (front_none held (refusal_outcome line why).bytes, refl)
+
+pub told_nothing : (left : Option (List ℕ)) (mode : Mode) (budget : ℕ) (held : Option (List ℕ)) → 1 ≤ budget → IfSome left (λ input. InputAnswers mode budget input held held statuses.NoMemory None)
+told_nothing None mode budget held low = tt
+told_nothing (Some input) mode budget held low = nothing_read mode budget (reading_of input) held low
 
 pub input_answers : (mode : Mode) (budget : ℕ) (input : List ℕ) (old new : Option (List ℕ)) (status : Status) (closed : Option Record) → IsPastStart status →
     ReadingAnswers mode budget (reading_of input) old new status closed → InputAnswers mode budget input old new status closed

@@ -1,8 +1,11 @@
 use Rattle.tk_types.specs.declared.script.Reading.{Reading}
 use Rattle.tk_run.specs.Runs.{ReadingAnswers, ReadingCertain, ReadingStarts}
-use Rattle.tk_run.proofs.RunHeadlines.{told_input, told_run_headline}
+use Rattle.tk_run.proofs.RunHeadlines.{told_input, told_nothing, told_run_headline}
 use Rattle.tk_run.proofs.Told.{told_reading}
 use Rattle.tk_run.proofs.running.run_session.Goals as goal
+
+pub returns-in-Err-OutOfMemory-clause-answers : goal.returns-in-Err-OutOfMemory-clause-answers
+returns-in-Err-OutOfMemory-clause-answers g c = told_nothing _ c.args.mode c.args.budget _ c.requires.steps.0
 
 pub returns-clause-answers : goal.returns-clause-answers
 returns-clause-answers g c =
