@@ -39,6 +39,7 @@ alone_answers run old new statuses.Budget is past answers = answers
 alone_answers run old new (statuses.Refused line why) is past answers = absurd (never run.last (statuses.Refused line why) is answers.0)
 alone_answers run old new statuses.Starved is past answers = absurd (never run.last statuses.Starved is answers.0)
 alone_answers run old new (statuses.Unfit entry) is past answers = absurd (never run.last (statuses.Unfit entry) is answers.0)
+alone_answers run old new (statuses.Differs line) is past answers = absurd past
 alone_answers run old new statuses.Usage is past answers = absurd past
 alone_answers run old new statuses.ReadFault is past answers = absurd past
 alone_answers run old new statuses.WriteFault is past answers = answers

@@ -32,7 +32,7 @@ use Rattle.tk_run.proofs.Runs.{before_last}
 abbrev pub fate_written : Rest → ℕ → List Entry → Course → Fate → Writing
 fate_written next k entries c fates.Fed = behind_lines c.lines (writing (next c.state (k + 1) (drop 1 entries)))
 fate_written next k entries c fates.Went = behind_lines c.lines (writing (next c.state k entries))
-fate_written next k entries c (fates.Over last) = record { lines = c.lines; last = last }
+fate_written next k entries c (fates.Over last) = record { lines = c.lines; last = last; steps = c.state.steps }
 
 abbrev pub course_written : Rest → ℕ → List Entry → Course → Writing
 course_written next k entries c = fate_written next k entries c c.fate
@@ -40,7 +40,7 @@ course_written next k entries c = fate_written next k entries c c.fate
 went_written : (next : Rest) (k : ℕ) (entries : List Entry) (event : Event) (over : Option End) → writing (run_went next k entries event over) ≡ course_written next k entries (stepped k entries event over)
 went_written next k entries event None = before_last event.lines (next (taken event.state) k entries)
 went_written next k entries event (Some end) =
-    ap (λ (front : List Line). record { lines = front ++ lines.End event.state.steps (last_line end k entries) ∷ []; last = last_line end k entries }) (append-nil event.lines)
+    ap (λ (front : List Line). record { lines = front ++ lines.End event.state.steps (last_line end k entries) ∷ []; last = last_line end k entries; steps = event.state.steps }) (append-nil event.lines)
 
 fed_written : (next : Rest) (st : State) (k : ℕ) (entry : Entry) (later : List Entry) (comes : Option Event) → writing (run_entered next st k later comes) ≡ course_written next k (entry ∷ later) (fed (taken st) k comes)
 fed_written next st k entry later None = refl

@@ -107,6 +107,7 @@ run_answers script mode budget fleet closed old new statuses.ReadFault some r c 
 run_answers script mode budget fleet closed old new statuses.Starved some r c = absurd r
 run_answers script mode budget fleet closed old new statuses.Usage some r c = absurd r
 run_answers script mode budget fleet closed old new (statuses.Unfit entry) some r c = absurd r
+run_answers script mode budget fleet closed old new (statuses.Differs line) some r c = absurd r
 run_answers script mode budget fleet closed old new (statuses.Refused line why) some r c = absurd r
 
 -- each channel has a place for a Stop
@@ -121,6 +122,7 @@ run_places script mode budget fleet old new statuses.ReadFault r = absurd r
 run_places script mode budget fleet old new statuses.Starved r = absurd r
 run_places script mode budget fleet old new statuses.Usage r = absurd r
 run_places script mode budget fleet old new (statuses.Unfit entry) r = absurd r
+run_places script mode budget fleet old new (statuses.Differs line) r = absurd r
 run_places script mode budget fleet old new (statuses.Refused line why) r = absurd r
 
 -- there is a channel for each device
@@ -135,6 +137,7 @@ run_many script mode budget fleet old new statuses.ReadFault r = absurd r
 run_many script mode budget fleet old new statuses.Starved r = absurd r
 run_many script mode budget fleet old new statuses.Usage r = absurd r
 run_many script mode budget fleet old new (statuses.Unfit entry) r = absurd r
+run_many script mode budget fleet old new (statuses.Differs line) r = absurd r
 run_many script mode budget fleet old new (statuses.Refused line why) r = absurd r
 
 -- the count of faults rose where the sink failed, and never falls
@@ -153,6 +156,7 @@ run_counted script mode budget fleet old new statuses.ReadFault r = absurd r
 run_counted script mode budget fleet old new statuses.Starved r = absurd r
 run_counted script mode budget fleet old new statuses.Usage r = absurd r
 run_counted script mode budget fleet old new (statuses.Unfit entry) r = absurd r
+run_counted script mode budget fleet old new (statuses.Differs line) r = absurd r
 run_counted script mode budget fleet old new (statuses.Refused line why) r = absurd r
 
 -- ---- where the trace of each journal has room
@@ -180,6 +184,7 @@ run_sure script mode budget fleet old new statuses.ReadFault r has = absurd r
 run_sure script mode budget fleet old new statuses.Starved r has = absurd r
 run_sure script mode budget fleet old new statuses.Usage r has = absurd r
 run_sure script mode budget fleet old new (statuses.Unfit entry) r has = absurd r
+run_sure script mode budget fleet old new (statuses.Differs line) r has = absurd r
 run_sure script mode budget fleet old new (statuses.Refused line why) r has = absurd r
 
 -- ---- the fleet at the start, and the machine of the run

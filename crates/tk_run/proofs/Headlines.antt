@@ -41,7 +41,9 @@ form_headline input old new (readings.Refused line why) statuses.Budget is answe
 form_headline input old new (readings.Script script) statuses.Starved is answers = absurd (cc (answers.0))
 form_headline input old new (readings.Refused line why) statuses.Starved is answers = absurd (cc (answers.0))
 form_headline input old new (readings.Script script) (statuses.Unfit entry) is answers = absurd (cc (answers.0))
+form_headline input old new (readings.Script script) (statuses.Differs line) is answers = absurd (cc (answers.0))
 form_headline input old new (readings.Refused line why) (statuses.Unfit entry) is answers = absurd (cc (answers.0))
+form_headline input old new (readings.Refused line why) (statuses.Differs number) is answers = absurd (cc (answers.0))
 form_headline input old new _ (statuses.Refused line why) is answers = tt
 form_headline input old new _ statuses.ReadFault is answers = tt
 form_headline input old new _ statuses.WriteFault is answers = tt

@@ -7,6 +7,7 @@ pub mod FleetAnswers
 pub mod FleetLoops
 pub mod FleetTurns
 pub mod Handing
+pub mod Judged
 pub mod Headlines
 pub mod Readings
 pub mod Replays
@@ -16,3 +17,6 @@ pub mod SessionHeadlines
 pub mod SessionReadings
 pub mod StepFacts
 pub mod Told
+pub mod TraceReadings
+pub mod Verdicts
+pub mod VerifyHeadlines

@@ -21,7 +21,7 @@ use Rattle.tk_run.specs.declared.status.Status.{Status}
 use Rattle.tk_run.specs.declared.status.Status.TheVariants as statuses
 use Rattle.tk_run.specs.Answers.{IsCertain, OutcomeAnswers}
 use Rattle.tk_run.specs.Outcomes.{Outcome, status_of_last}
-use Rattle.tk_run.specs.Replays.{WriteAnswers, failure_status}
+use Rattle.tk_run.specs.Replays.{CountsSteps, WriteAnswers, failure_status}
 use Rattle.tk_run.specs.declared.writing.Unwritten.{Unwritten}
 use Rattle.tk_run.specs.declared.writing.Unwritten.TheVariants as failures
 use Rattle.tk_run.specs.Writings.{Writing, behind_lines, writing}
@@ -105,10 +105,10 @@ answered whole lasts.Starved held new is all = (ap status_of_last is, all)
 answered whole (lasts.Unfit entry) held new is all = (ap status_of_last is, all)
 
 -- the last lines were written
-pub last_outcome : {held mid : Option (List ℕ)} {faults faults_mid room room_mid : ℕ} {whole now : Writing} (new : Option (List ℕ)) (lines : List Line) (last : LastLine) (status : Status)
-    → IsRunning held mid faults faults_mid room room_mid whole now → now ≡ record { lines = lines; last = last } → Appends mid new (text_of_lines lines) → status ≡ status_of_last last
+pub last_outcome : {held mid : Option (List ℕ)} {faults faults_mid room room_mid : ℕ} {whole now : Writing} (new : Option (List ℕ)) (lines : List Line) (last : LastLine) (steps : ℕ) (status : Status)
+    → IsRunning held mid faults faults_mid room room_mid whole now → now ≡ record { lines = lines; last = last; steps = steps } → Appends mid new (text_of_lines lines) → status ≡ status_of_last last
     → OutcomeAnswers (written whole) held new status
-last_outcome {held} {mid} {whole = whole} {now = now} new lines last status h is more same =
+last_outcome {held} {mid} {whole = whole} {now = now} new lines last steps status h is more same =
     let joins : h.front ++ text_of_lines lines ≡ text_of_lines whole.lines = ap (λ (run : Writing). h.front ++ text_of_lines run.lines) (sym is) ∙ h.joins in
     let all : Appends held new (text_of_lines whole.lines) = rw (← joins) (appends_append held mid new h.front (text_of_lines lines) h.taken more) in
     rw same (answered whole last held new (sym h.lasts ∙ ap (λ (run : Writing). run.last) is) all)
@@ -127,7 +127,10 @@ turn_first m new k left more entries turn is gives =
     by_fate : (fate : Fate) → (behind : Writing) × (fate_written (later_runs left m.script m.mode m.budget) k entries (next_course m k entries) fate ≡ behind_lines (next_course m k entries).lines behind)
     by_fate fates.Fed = (writing (runs left m.script m.mode m.budget (next_course m k entries).state (k + 1) (drop 1 entries)), refl)
     by_fate fates.Went = (writing (runs left m.script m.mode m.budget (next_course m k entries).state k entries), refl)
-    by_fate (fates.Over last) = (record { lines = []; last = last }, ap (λ (front : List Line). record { lines = front; last = last }) (sym (append-nil (next_course m k entries).lines)))
+    by_fate (fates.Over last) = (
+      record { lines = []; last = last; steps = (next_course m k entries).state.steps },
+      ap (λ (front : List Line). record { lines = front; last = last; steps = (next_course m k entries).state.steps }) (sym (append-nil (next_course m k entries).lines)),
+    )
 
 -- the rest of the run behind a turn
 ready_again : (m next : Machine) (st : State) → IsReady m → next ≡ settled m st → next.state.steps < next.budget → IsReady next
@@ -217,12 +220,13 @@ goes_on {turns = turns} {taken = taken} {journal = journal} m next left turn h i
 
 -- the machine ended the run
 pub over_remaining : (m new : Machine) (k left more : ℕ) (entries : List Entry) (turn : FedTurn) (last : LastLine) → more ≡ left + 1 → TurnGives m new (next_course m k entries) turn → turn.fate ≡ fates.Over last
-    → remaining more m k entries ≡ record { lines = turn.lines.items; last = last }
+    → remaining more m k entries ≡ record { lines = turn.lines.items; last = last; steps = turn.steps }
 over_remaining m new k left more entries turn last is gives fate =
     let came : (next_course m k entries).fate ≡ fates.Over last = sym gives.fate ∙ fate in
     runs_written left more m.script m.mode m.budget m.state k entries is
     ∙ (ap (fate_written (later_runs left m.script m.mode m.budget) k entries (next_course m k entries)) came
-    ∙ ap (λ (front : List Line). record { lines = front; last = last }) (sym gives.lines))
+    ∙ (ap (λ (front : List Line). record { lines = front; last = last; steps = (next_course m k entries).state.steps }) (sym gives.lines)
+    ∙ ap (λ (n : ℕ). record { lines = turn.lines.items; last = last; steps = n }) (sym gives.steps)))
 
 -- ---- the start
 
@@ -264,11 +268,28 @@ begins_certain held faults faults_new room script mode budget journal old failur
     unwritten_certain faults_new (remaining left m 1 journal) old.lines failure status (run_starts held faults room whole whole refl) (first_lines script mode budget journal old m left is refl refl) sure same fits
 
 -- the last lines surely had room
-pub last_certain : {held mid : Option (List ℕ)} {faults faults_mid room room_mid : ℕ} {whole now : Writing} {Sure Left : Type 0} (faults_new : ℕ) (lines : List Line) (last : LastLine) (status : Status)
-    → IsRunning held mid faults faults_mid room room_mid whole now → now ≡ record { lines = lines; last = last } → (length (text_of_lines lines) ≤ room_mid → Sure × (faults_new ≡ faults_mid) × Left) → status ≡ status_of_last last
+pub last_certain : {held mid : Option (List ℕ)} {faults faults_mid room room_mid : ℕ} {whole now : Writing} {Sure Left : Type 0} (faults_new : ℕ) (lines : List Line) (last : LastLine) (steps : ℕ) (status : Status)
+    → IsRunning held mid faults faults_mid room room_mid whole now → now ≡ record { lines = lines; last = last; steps = steps } → (length (text_of_lines lines) ≤ room_mid → Sure × (faults_new ≡ faults_mid) × Left) → status ≡ status_of_last last
     → length (text_of_lines whole.lines) ≤ room → IsCertain (status_of_last whole.last) faults faults_new status
-last_certain {whole = whole} faults_new lines last status h is sure same fits =
+last_certain {whole = whole} faults_new lines last steps status h is sure same fits =
     let before = h.certain fits in
     let size : length (text_of_lines lines) ≤ _ = rw is at before.1 in
     let turn = sure size in
     record { answer_is = inl (same ∙ ap status_of_last (sym (ap (λ (run : Writing). run.last) is) ∙ h.lasts)); no_fault = turn.1 ∙ before.0 }
+
+-- the run is over after as many steps as its trace has
+pub last_steps : {held mid : Option (List ℕ)} {faults faults_mid room room_mid : ℕ} {whole now : Writing} (lines : List Line) (last : LastLine) (steps : ℕ)
+    → IsRunning held mid faults faults_mid room room_mid whole now → now ≡ record { lines = lines; last = last; steps = steps } → steps ≡ whole.steps
+last_steps lines last steps h is = sym (ap (λ (run : Writing). run.steps) is) ∙ h.steps
+
+pub status_steps : (last : LastLine) (steps counted : ℕ) → counted ≡ steps → CountsSteps steps (status_of_last last) counted
+status_steps lasts.Idle steps counted same = same
+status_steps lasts.Halt steps counted same = same
+status_steps lasts.Budget steps counted same = same
+status_steps lasts.Starved steps counted same = same
+status_steps (lasts.Unfit entry) steps counted same = same
+
+-- a run whose lines weren't written tells no steps
+pub unwritten_steps : (failure : Unwritten) (steps counted : ℕ) (status : Status) → status ≡ failure_status failure → CountsSteps steps status counted
+unwritten_steps failures.WriteFault steps counted status is = rw is tt
+unwritten_steps failures.NoMemory steps counted status is = rw is tt

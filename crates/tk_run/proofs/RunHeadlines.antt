@@ -80,6 +80,7 @@ alone_script script mode budget old new statuses.ReadFault runnable low none ans
 alone_script script mode budget old new statuses.Starved runnable low none answers = absurd answers
 alone_script script mode budget old new statuses.Usage runnable low none answers = absurd answers
 alone_script script mode budget old new (statuses.Unfit entry) runnable low none answers = absurd answers
+alone_script script mode budget old new (statuses.Differs line) runnable low none answers = absurd answers
 alone_script script mode budget old new (statuses.Refused line why) runnable low none answers = absurd answers
 
 -- ---- by the input
@@ -113,6 +114,7 @@ input_answers mode budget input old new statuses.NoMemory closed past answers = 
 input_answers mode budget input old new statuses.NoThread closed past answers = answers
 input_answers mode budget input old new statuses.Starved closed past answers = answers
 input_answers mode budget input old new (statuses.Unfit entry) closed past answers = answers
+input_answers mode budget input old new (statuses.Differs line) closed past answers = answers
 input_answers mode budget input old new statuses.Usage closed past answers = answers
 
 -- ---- the headline
@@ -125,6 +127,7 @@ read_headline mode budget input old new (readings.Refused line why) statuses.Don
 read_headline mode budget input old new (readings.Refused line why) statuses.Budget closed is past answers = absurd (cc (answers.0.0))
 read_headline mode budget input old new _ statuses.Starved closed is past answers = past
 read_headline mode budget input old new _ (statuses.Unfit entry) closed is past answers = past
+read_headline mode budget input old new _ (statuses.Differs line) closed is past answers = past
 read_headline mode budget input old new _ statuses.Usage closed is past answers = past
 read_headline mode budget input old new _ (statuses.Refused line why) closed is past answers = tt
 read_headline mode budget input old new _ statuses.ReadFault closed is past answers = tt
@@ -160,6 +163,7 @@ script_past script mode budget old new statuses.NoThread closed answers = tt
 script_past script mode budget old new statuses.ReadFault closed answers = absurd answers
 script_past script mode budget old new statuses.Starved closed answers = absurd answers
 script_past script mode budget old new (statuses.Unfit entry) closed answers = absurd answers
+script_past script mode budget old new (statuses.Differs line) closed answers = absurd answers
 script_past script mode budget old new statuses.Usage closed answers = absurd answers
 
 pub refused_past : (status : Status) → IsPastReading status → IsPastStart status
@@ -172,6 +176,7 @@ refused_past statuses.NoThread past = tt
 refused_past statuses.ReadFault past = absurd past
 refused_past statuses.Starved past = absurd past
 refused_past (statuses.Unfit entry) past = absurd past
+refused_past (statuses.Differs line) past = absurd past
 refused_past statuses.Usage past = absurd past
 
 -- that a driver couldn't be started is no answer where nothing is run

@@ -12,7 +12,7 @@ use Rattle.tk_run.specs.Writings.{Writing, behind_lines, writing}
 
 -- lines before the last one of a trace
 pub before_last : (front : List Line) (run : Trace) → writing (record run { lines = front ++ run.lines }) ≡ behind_lines front (writing run)
-before_last front run = ap (λ (all : List Line). record { lines = all; last = run.last }) (append_assoc front run.lines (lines.End run.steps run.last ∷ []))
+before_last front run = ap (λ (all : List Line). record { lines = all; last = run.last; steps = run.steps }) (append_assoc front run.lines (lines.End run.steps run.last ∷ []))
 
 -- a run on its way: what was taken, and the text of what is to come, make the whole
 pub record IsRunning (held held_now : Option (List ℕ)) (faults faults_now room room_now : ℕ) (whole now : Writing) : Type 0 where
@@ -20,6 +20,7 @@ pub record IsRunning (held held_now : Option (List ℕ)) (faults faults_now room
   pub taken : Appends held held_now front
   pub joins : front ++ text_of_lines now.lines ≡ text_of_lines whole.lines
   pub lasts : now.last ≡ whole.last
+  pub steps : now.steps ≡ whole.steps
   pub faults_stay : faults ≤ faults_now
   pub certain : length (text_of_lines whole.lines) ≤ room → (faults_now ≡ faults) × (length (text_of_lines now.lines) ≤ room_now)
 
@@ -29,6 +30,7 @@ run_starts held faults room whole now is = record {
   taken = appends_none held;
   joins = ap (λ (run : Writing). text_of_lines run.lines) is;
   lasts = ap (λ (run : Writing). run.last) is;
+  steps = ap (λ (run : Writing). run.steps) is;
   faults_stay = omega arith;
   certain = λ fits. (refl, rw is fits);
 }
@@ -48,6 +50,7 @@ run_goes_on {held} {mid} {new} {faults} {faults_mid} {faults_new} {room} {room_m
       taken = appends_append held mid new h.front text h.taken more;
       joins = append_assoc h.front text behind ∙ (ap (λ (l : List ℕ). h.front ++ l) (sym parts) ∙ h.joins);
       lasts = sym (ap (λ (run : Writing). run.last) is) ∙ h.lasts;
+      steps = sym (ap (λ (run : Writing). run.steps) is) ∙ h.steps;
       faults_stay = omega arith;
       certain = λ fits.
           let before : (faults_mid ≡ faults) × (length (text_of_lines now.lines) ≤ room_mid) = h.certain fits in

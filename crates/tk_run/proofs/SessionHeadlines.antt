@@ -15,14 +15,14 @@ use Rattle.tk_run.proofs.Headlines.{budget_last, done_last}
 use Rattle.tk_run.proofs.Told.{told_then}
 use Rattle.tk_run.proofs.SessionReadings.{session_of_front, session_spelled}
 
-starved_last : (last : LastLine) → status_of_last last ≡ statuses.Starved → last ≡ lasts.Starved
+pub starved_last : (last : LastLine) → status_of_last last ≡ statuses.Starved → last ≡ lasts.Starved
 starved_last lasts.Idle is = absurd (cc)
 starved_last lasts.Halt is = absurd (cc)
 starved_last lasts.Budget is = absurd (cc)
 starved_last lasts.Starved is = refl
 starved_last (lasts.Unfit entry) is = absurd (cc)
 
-unfit_last : (last : LastLine) (entry : ℕ) → status_of_last last ≡ statuses.Unfit entry → last ≡ lasts.Unfit entry
+pub unfit_last : (last : LastLine) (entry : ℕ) → status_of_last last ≡ statuses.Unfit entry → last ≡ lasts.Unfit entry
 unfit_last lasts.Idle entry is = absurd (cc)
 unfit_last lasts.Halt entry is = absurd (cc)
 unfit_last lasts.Budget entry is = absurd (cc)
@@ -49,6 +49,7 @@ read_headline mode budget input old new _ statuses.WriteFault is past answers = 
 read_headline mode budget input old new _ statuses.NoMemory is past answers = tt
 read_headline mode budget input old new _ statuses.NoThread is past answers = tt
 read_headline mode budget input old new _ statuses.Usage is past answers = tt
+read_headline mode budget input old new _ (statuses.Differs line) is past answers = absurd past
 
 replay_headline : (mode : Mode) (budget : ℕ) (input : List ℕ) (old new : Option (List ℕ)) (status : Status) → IsPastSession status
     → OutcomeAnswers (replay_outcome mode budget input) old new status → HeadlineAnswers (Some (Replay mode budget)) input old new status

@@ -28,7 +28,7 @@ long_is_refused : (text : List ℕ) → 67108864 < length text → session_readi
 unfolding session_reading
 long_is_refused text long = rw (lt-ltb 67108864 (length text) long) refl
 
-within_or_past : (n limit : ℕ) → (n ≤ limit) ⊎ (limit < n)
+pub within_or_past : (n limit : ℕ) → (n ≤ limit) ⊎ (limit < n)
 within_or_past n limit = elim (leb_tells n limit) [ inl test ↦ inl test.1 | inr test ↦ inr test.1 ]
 
 front_decides : (text input : List ℕ) → text ≡ take (67108864 + 1) input → (length input ≤ 67108864) ⊎ (67108864 < length input) → session_reading text ≡ session_reading input

@@ -23,6 +23,7 @@ OutcomeAnswers outcome old new statuses.Budget = (outcome.status ≡ statuses.Bu
 OutcomeAnswers outcome old new (statuses.Refused line why) = (outcome.status ≡ statuses.Refused line why) × Appends old new outcome.bytes
 OutcomeAnswers outcome old new statuses.Starved = (outcome.status ≡ statuses.Starved) × Appends old new outcome.bytes
 OutcomeAnswers outcome old new (statuses.Unfit entry) = (outcome.status ≡ statuses.Unfit entry) × Appends old new outcome.bytes
+OutcomeAnswers outcome old new (statuses.Differs line) = (outcome.status ≡ statuses.Differs line) × Appends old new outcome.bytes
 OutcomeAnswers outcome old new statuses.Usage = (outcome.status ≡ statuses.Usage) × Appends old new outcome.bytes
 OutcomeAnswers outcome old new statuses.ReadFault = new ≡ old
 OutcomeAnswers outcome old new statuses.NoThread = ⊥
@@ -67,6 +68,7 @@ HeadlineAnswers None input old new statuses.Done = ⊥
 HeadlineAnswers None input old new statuses.Budget = ⊥
 HeadlineAnswers _ input old new statuses.Starved = ⊥
 HeadlineAnswers _ input old new (statuses.Unfit entry) = ⊥
+HeadlineAnswers _ input old new (statuses.Differs line) = ⊥
 HeadlineAnswers _ input old new _ = Unit {0}
 
 -- words that are no command are answered so, and nothing is read
@@ -80,6 +82,7 @@ IsPastReading statuses.Usage = ⊥
 IsPastReading statuses.NoThread = ⊥
 IsPastReading statuses.Starved = ⊥
 IsPastReading (statuses.Unfit entry) = ⊥
+IsPastReading (statuses.Differs line) = ⊥
 IsPastReading _ = Unit {0}
 
 -- the same of a run, whose drivers may not start
@@ -88,6 +91,7 @@ IsPastStart statuses.ReadFault = ⊥
 IsPastStart statuses.Usage = ⊥
 IsPastStart statuses.Starved = ⊥
 IsPastStart (statuses.Unfit entry) = ⊥
+IsPastStart (statuses.Differs line) = ⊥
 IsPastStart _ = Unit {0}
 
 -- the answers that may come once the input was read, where the endings of a journal are fed
@@ -95,4 +99,13 @@ abbrev pub IsPastSession : Status → Type 0
 IsPastSession statuses.ReadFault = ⊥
 IsPastSession statuses.Usage = ⊥
 IsPastSession statuses.NoThread = ⊥
+IsPastSession (statuses.Differs line) = ⊥
 IsPastSession _ = Unit {0}
+
+-- the answers that may come once the input was read, where a trace is looked at
+abbrev pub IsPastTrace : Status → Type 0
+IsPastTrace statuses.ReadFault = ⊥
+IsPastTrace statuses.Usage = ⊥
+IsPastTrace statuses.NoThread = ⊥
+IsPastTrace statuses.Budget = ⊥
+IsPastTrace _ = Unit {0}

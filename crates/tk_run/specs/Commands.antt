@@ -5,7 +5,7 @@ use Rattle.tk_types.specs.declared.run.Mode.TheVariants.{Free, Sync}
 use Rattle.tk_model.specs.Decimals.{natural_at}
 use Rattle.tk_text.specs.Sessions.{script_limit, session_limit}
 use Rattle.tk_run.specs.declared.command.Command.{Command}
-use Rattle.tk_run.specs.declared.command.Command.TheVariants.{Run, Replay, Check}
+use Rattle.tk_run.specs.declared.command.Command.TheVariants.{Run, Replay, Verify, Check, Generate}
 use Rattle.tk_run.specs.declared.command.Options.{Options}
 
 -- the most steps that a run may be given
@@ -27,7 +27,7 @@ budget_of (Some number) = if nat_le 1 number && nat_le number most_steps then So
 unfoldable pub budget_at : List ℕ → Option ℕ
 budget_at word = budget_of (natural_at word)
 
--- the budget of the words behind `run` or `replay`: none, or `--budget` and a number
+-- the budget of the words behind `run`, `replay` or `verify`: none, or `--budget` and a number
 unfoldable pub budget_in : List (List ℕ) → Option ℕ
 budget_in [] = Some default_budget
 budget_in (option ∷ []) = None
@@ -37,7 +37,7 @@ budget_in (option ∷ number ∷ other ∷ words) = None
 abbrev pub options : Mode → ℕ → Options
 options mode budget = record { mode = mode; budget = budget }
 
--- the mode and the budget of the words behind `run` or `replay`: `--sync` comes first, where it is there
+-- the mode and the budget of the words behind `run`, `replay` or `verify`: `--sync` comes first, where it is there
 unfoldable pub options_of : List (List ℕ) → Option Options
 options_of [] = Some (options Free default_budget)
 options_of (option ∷ words) =
@@ -45,12 +45,33 @@ options_of (option ∷ words) =
     then option_map (options Sync) (budget_in words)
     else option_map (options Free) (budget_in (option ∷ words))
 
--- a run, and a run that is fed with a journal
+-- a run, a run that is fed with a journal, and one that a trace is compared with
 abbrev pub run_with : Options → Command
 run_with options = Run options.mode options.budget
 
 abbrev pub replay_with : Options → Command
 replay_with options = Replay options.mode options.budget
+
+abbrev pub verify_with : Options → Command
+verify_with options = Verify options.mode options.budget
+
+-- the greatest number of a script that is made
+abbrev pub most_number : ℕ
+most_number = 65535
+
+abbrev pub number_within : Option ℕ → Option ℕ
+number_within None = None
+number_within (Some number) = if nat_le number most_number then Some number else None
+
+-- the number of a script that a word spells
+unfoldable pub script_number : List ℕ → Option ℕ
+script_number word = number_within (natural_at word)
+
+-- the making of the script whose number the words behind `gen` are
+unfoldable pub generate_of : List (List ℕ) → Option Command
+generate_of [] = None
+generate_of (word ∷ []) = option_map Generate (script_number word)
+generate_of (word ∷ other ∷ words) = None
 
 -- a command that takes no word more
 abbrev pub alone : Command → List (List ℕ) → Option Command
@@ -63,6 +84,8 @@ command_of [] = None
 command_of (name ∷ words) =
     if bytes_eq name (codes "run") then option_map run_with (options_of words)
     else if bytes_eq name (codes "replay") then option_map replay_with (options_of words)
+    else if bytes_eq name (codes "verify") then option_map verify_with (options_of words)
+    else if bytes_eq name (codes "gen") then generate_of words
     else if bytes_eq name (codes "check") then alone Check words
     else None
 
@@ -70,12 +93,15 @@ command_of (name ∷ words) =
 abbrev pub IsCommand : Command → Type 0
 IsCommand (Run mode budget) = IsBudget budget
 IsCommand (Replay mode budget) = IsBudget budget
+IsCommand (Verify mode budget) = IsBudget budget
 IsCommand Check = Unit {0}
+IsCommand (Generate number) = number ≤ most_number
 
 abbrev pub IsOptions : Options → Type 0
 IsOptions options = IsBudget options.budget
 
--- the most bytes of a command's input: those of a session, or of a script
+-- the most bytes of a command's input: those of a session, or of a script; to make a script nothing is read
 abbrev pub input_limit : Option Command → ℕ
 input_limit (Some (Replay mode budget)) = session_limit
+input_limit (Some (Verify mode budget)) = session_limit
 input_limit _ = script_limit

@@ -94,6 +94,7 @@ pub record IsReady (m : Machine) : Type 0 where
 pub record TurnGives (old new : Machine) (course : Course) (turn : FedTurn) : Type 0 where
   pub lines : turn.lines.items ≡ course.lines
   pub fate : turn.fate ≡ course.fate
+  pub steps : turn.steps ≡ course.state.steps
   pub next : GoesOn old new course turn.fate
 
 -- lines without the last one

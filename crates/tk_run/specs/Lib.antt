@@ -7,3 +7,4 @@ pub mod FleetRuns
 pub mod Writings
 pub mod FedTurns
 pub mod Replays
+pub mod Verdicts

@@ -38,6 +38,7 @@ number_of statuses.NoMemory = 5
 number_of statuses.NoThread = 6
 number_of statuses.Starved = 7
 number_of (statuses.Unfit entry) = 8
+number_of (statuses.Differs line) = 9
 number_of statuses.Usage = 64
 
 -- a run that ended by itself is done

@@ -23,6 +23,14 @@ abbrev pub failure_status : Unwritten → Status
 failure_status failures.WriteFault = statuses.WriteFault
 failure_status failures.NoMemory = statuses.NoMemory
 
+-- with the status of a trace the steps are those of the trace
+abbrev pub CountsSteps : ℕ → Status → ℕ → Type 0
+CountsSteps steps statuses.Done counted = counted ≡ steps
+CountsSteps steps statuses.Budget counted = counted ≡ steps
+CountsSteps steps statuses.Starved counted = counted ≡ steps
+CountsSteps steps (statuses.Unfit entry) counted = counted ≡ steps
+CountsSteps steps _ counted = Unit {0}
+
 -- all bytes were written, or what kept them from it
 abbrev pub WriteAnswers : Option (List ℕ) → Option (List ℕ) → List ℕ → Result (Unit {0}) Unwritten → Type 0
 WriteAnswers held held_new bytes (Ok done) = Appends held held_new bytes

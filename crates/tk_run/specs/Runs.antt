@@ -21,12 +21,13 @@ use Rattle.fleet_model.specs.Fleets.{most_counted}
 use Rattle.fleet_model.specs.Records.{AreJoined, Record}
 use Rattle.run_model.specs.Told.{Tells}
 use Rattle.tk_run.specs.declared.command.Command.{Command}
-use Rattle.tk_run.specs.declared.command.Command.TheVariants.{Run, Replay, Check}
+use Rattle.tk_run.specs.declared.command.Command.TheVariants.{Run, Replay, Verify, Check}
 use Rattle.tk_run.specs.declared.status.Status.{Status}
 use Rattle.tk_run.specs.declared.status.Status.TheVariants as statuses
 use Rattle.tk_run.specs.Answers.{HeadlineAnswers, IsCertain, IsDone, OutcomeAnswers}
 use Rattle.tk_run.specs.Outcomes.{check_outcome, refusal_outcome, refusal_text, replay_outcome, usage_outcome}
 use Rattle.tk_run.specs.Readings.{reading_of}
+use Rattle.tk_run.specs.Verdicts.{Verifies, VerifyHeadline, verify_outcome}
 
 -- a trace is fed with the endings that its own J lines record; in sync mode it is the one that script and budget determine, and
 -- without devices the one that is fed with none
@@ -88,6 +89,7 @@ InputAnswers mode budget input old new status closed = ReadingAnswers mode budge
 abbrev pub CommandAnswers : Option Command → List ℕ → Option (List ℕ) → Option (List ℕ) → Status → Option Record → Type 0
 CommandAnswers (Some (Run mode budget)) input old new status closed = InputAnswers mode budget input old new status closed
 CommandAnswers (Some (Replay mode budget)) input old new status closed = OutcomeAnswers (replay_outcome mode budget input) old new status × (closed ≡ None)
+CommandAnswers (Some (Verify mode budget)) input old new status closed = OutcomeAnswers (verify_outcome mode budget input) old new status × (closed ≡ None)
 CommandAnswers (Some Check) input old new status closed = OutcomeAnswers (check_outcome input) old new status × (closed ≡ None)
 CommandAnswers None input old new status closed = OutcomeAnswers usage_outcome old new status × (closed ≡ None)
 
@@ -101,12 +103,19 @@ RunHeadline mode budget input old new statuses.Done closed = WritesSpelled mode 
 RunHeadline mode budget input old new statuses.Budget closed = WritesSpelled mode budget input (λ last. last ≡ lasts.Budget) old new closed
 RunHeadline mode budget input old new statuses.Starved closed = ⊥
 RunHeadline mode budget input old new (statuses.Unfit entry) closed = ⊥
+RunHeadline mode budget input old new (statuses.Differs line) closed = ⊥
 RunHeadline mode budget input old new statuses.Usage closed = ⊥
 RunHeadline mode budget input old new _ closed = Unit {0}
 
 abbrev pub CommandHeadline : Option Command → List ℕ → Option (List ℕ) → Option (List ℕ) → Status → Option Record → Type 0
 CommandHeadline (Some (Run mode budget)) input old new status closed = RunHeadline mode budget input old new status closed
+CommandHeadline (Some (Verify mode budget)) input old new status closed = VerifyHeadline mode budget input old new status
 CommandHeadline command input old new status closed = HeadlineAnswers command input old new status
+
+-- the trace of its own run is told to be that
+abbrev pub CommandVerifies : Option Command → List ℕ → Status → Type 0
+CommandVerifies (Some (Verify mode budget)) input status = Verifies mode budget input status
+CommandVerifies _ input status = Unit {0}
 
 -- ---- where no stream fails
 
@@ -123,6 +132,8 @@ abbrev pub CommandCertain : Option Command → List ℕ → ℕ → ℕ → ℕ 
 CommandCertain (Some (Run mode budget)) input room faults faults_now status = ReadingCertain mode budget (reading_of input) room faults faults_now status
 CommandCertain (Some (Replay mode budget)) input room faults faults_now status =
     length (replay_outcome mode budget input).bytes ≤ room → IsCertain (replay_outcome mode budget input).status faults faults_now status
+CommandCertain (Some (Verify mode budget)) input room faults faults_now status =
+    length (verify_outcome mode budget input).bytes ≤ room → IsCertain (verify_outcome mode budget input).status faults faults_now status
 CommandCertain (Some Check) input room faults faults_now status = length (check_outcome input).bytes ≤ room → IsCertain (check_outcome input).status faults faults_now status
 CommandCertain None input room faults faults_now status = length usage_outcome.bytes ≤ room → IsCertain usage_outcome.status faults faults_now status
 

@@ -4,7 +4,7 @@ ghost use Rattle.std.specs.Prelude.{◌≡◌, ◌≢◌, ◌≤◌, ◌+◌, le
 ghost use Rattle.tk_ports.specs.Streams.{CountsWithin, Rose, TakesWithin};
 ghost use Rattle.tk_run.specs.Answers.{IsUsage};
 ghost use Rattle.tk_run.specs.Commands.{command_of, input_limit};
-ghost use Rattle.tk_run.specs.Runs.{CommandAnswers, CommandCertain, CommandHeadline, CommandStarts};
+ghost use Rattle.tk_run.specs.Runs.{CommandAnswers, CommandCertain, CommandHeadline, CommandStarts, CommandVerifies};
 
 use crate::checking::check_script;
 use crate::command::{Command, command_of};
@@ -12,6 +12,7 @@ use crate::refusal::tell_usage;
 use crate::replaying::replay_session;
 use crate::running::run_session;
 use crate::status::Status;
+use crate::verifying::verify_session;
 use dev_drivers::{FleetRecord, Spawner};
 use std::alloc::Global;
 use std::sync::Wait;
@@ -43,6 +44,9 @@ pub fn program<R: Threads + Wait + Copy + Send + Sync + 'static, S: Source, K: S
 
     // With the status of a run the input spells a script, or a session, and its trace or its printed form was written.
     ensures headline { IfSome (S.left source.old) (λ input. CommandHeadline (command_of (map string_bytes words.now)) input (K.held sink.old) (K.held sink.new) result.0 result.1) }
+
+    // A trace that its own run writes is told to be that, unless a stream failed or memory ran out.
+    ensures own { IfSome (S.left source.old) (λ input. CommandVerifies (command_of (map string_bytes words.now)) input result.0) }
 
     // Words that are no command, and no others, are answered so; nothing is read then.
     ensures usage { result.0 ≡ Status.Usage → command_of (map string_bytes words.now) ≡ None }
@@ -78,6 +82,10 @@ pub fn program<R: Threads + Wait + Copy + Send + Sync + 'static, S: Source, K: S
         Command::Replay { mode, budget } => {
             (replay_session(alloc, mode, budget, source, sink), None)
         }
+        Command::Verify { mode, budget } => {
+            (verify_session(alloc, mode, budget, source, sink), None)
+        }
         Command::Check => (check_script(alloc, source, sink), None),
+        Command::Generate { .. } => (tell_usage(sink), None),
     }
 }

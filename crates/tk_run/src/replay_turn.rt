@@ -25,6 +25,8 @@ pub(crate) struct FedTurn {
     /// The lines of the turn, with the last one where the run is over.
     pub(crate) lines: Vec<Line>,
     pub(crate) fate: Fate,
+    /// The steps that are done behind the turn.
+    pub(crate) steps: u32,
 }
 
 /// Whether the next entry has a place up to this one.
@@ -88,11 +90,13 @@ fn enter(machine: &mut Machine, entry: &Entry) -> Result<bool, OutOfMemory>
 fn over_after(mut lines: Vec<Line>, step: u32, last: LastLine) -> Result<FedTurn, OutOfMemory>
     ensures lines { IfOk result (λ turn. turn.lines.items ≡ lines.items ++ Line.End step last ∷ []) }
     ensures fate { IfOk result (λ turn. turn.fate ≡ Fate.Over last) }
+    ensures steps { IfOk result (λ turn. turn.steps ≡ step) }
 {
     lines.push(Line::End { step, end: last })?;
     Ok(FedTurn {
         lines,
         fate: Fate::Over(last),
+        steps: step,
     })
 }
 
@@ -100,12 +104,15 @@ fn over_after(mut lines: Vec<Line>, step: u32, last: LastLine) -> Result<FedTurn
 fn going_on(machine: &mut Machine, fate: Fate) -> FedTurn
     ensures lines { result.lines.items ≡ machine.old.lines }
     ensures fate { result.fate ≡ fate }
+    ensures steps { result.steps ≡ machine.old.state.steps }
     ensures left { machine.new ≡ settled machine.old machine.old.state }
 {
+    let steps = machine.steps_done();
     machine.take_messages();
     FedTurn {
         lines: machine.take_lines(),
         fate,
+        steps,
     }
 }
 
@@ -113,6 +120,7 @@ fn going_on(machine: &mut Machine, fate: Fate) -> FedTurn
 fn stopped(machine: &mut Machine, step: u32, last: LastLine) -> Result<FedTurn, OutOfMemory>
     ensures lines { IfOk result (λ turn. turn.lines.items ≡ Line.End step last ∷ []) }
     ensures fate { IfOk result (λ turn. turn.fate ≡ Fate.Over last) }
+    ensures steps { IfOk result (λ turn. turn.steps ≡ step) }
 {
     let mut lines = machine.take_lines();
     lines.clear();
@@ -123,6 +131,7 @@ fn stopped(machine: &mut Machine, step: u32, last: LastLine) -> Result<FedTurn, 
 fn ended(machine: &mut Machine, last: LastLine) -> Result<FedTurn, OutOfMemory>
     ensures lines { IfOk result (λ turn. turn.lines.items ≡ without_last machine.old.lines ++ Line.End machine.old.state.steps last ∷ []) }
     ensures fate { IfOk result (λ turn. turn.fate ≡ Fate.Over last) }
+    ensures steps { IfOk result (λ turn. turn.steps ≡ machine.old.state.steps) }
 {
     let step = machine.steps_done();
     let mut lines = machine.take_lines();

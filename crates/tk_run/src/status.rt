@@ -5,10 +5,11 @@ ghost use Rattle.tk_run.specs.Outcomes.{number_of};
 
 use tk_types::Why;
 
-/// How a call ended. `Starved` and `Unfit` are ends of a replay, and `NoThread` of a run with devices.
+/// How a call ended. `Starved` and `Unfit` are ends of a replay and verdicts on a trace, `Differs` is a verdict on a trace, and `NoThread` an
+/// end of a run with devices.
 #[derive(Clone, Copy, Debug, PartialEq, Eq)]
 pub enum Status {
-    /// The run ended by itself, with nothing left to do or by `halt`.
+    /// The run ended by itself, with nothing left to do or by `halt`; the script was printed; the given trace is that of the run.
     Done,
     /// The run ended at its budget of steps.
     Budget,
@@ -26,6 +27,8 @@ pub enum Status {
     Starved,
     /// The entry with that number, from 1 on, gives an ending that isn't fit at its place.
     Unfit { entry: u32 },
+    /// The given trace isn't that of the run: that line is the first that differs, counted from 1.
+    Differs { line: u32 },
     /// The words are no command.
     Usage,
 }
@@ -45,6 +48,7 @@ impl Status {
             Status::NoThread => 6,
             Status::Starved => 7,
             Status::Unfit { .. } => 8,
+            Status::Differs { .. } => 9,
             Status::Usage => 64,
         }
     }

@@ -7,7 +7,7 @@ use Rattle.std.proofs.lemmas.Bool.Decides.{nat_tests}
 use Rattle.tk_model.specs.TextLines.{text_lines, whole_lines}
 use Rattle.tk_model.specs.Words.{lines_of, parts_of}
 use Rattle.tk_text.specs.Sessions.{divider_from, is_divider}
-use Rattle.tk_session.specs.Spelling.{IsCut, fed, journal_word}
+use Rattle.tk_session.specs.Spelling.{IsCut, fed}
 
 -- ---- the first line of a text
 
@@ -135,11 +135,11 @@ pub record IsPlace (number at : ℕ) (before : List (List ℕ)) (divider : List 
   pub from_is : from ≡ at + length (fed before)
   pub to_is : to ≡ from + length divider
 
-pub record CutAt (number at : ℕ) (lines : List (List ℕ)) (line from to : ℕ) : Type 0 where
+pub record CutAt (word : List ℕ) (number at : ℕ) (lines : List (List ℕ)) (line from to : ℕ) : Type 0 where
   pub before : List (List ℕ)
   pub divider : List ℕ
   pub behind : List (List ℕ)
-  pub cut : IsCut lines before divider behind
+  pub cut : IsCut word lines before divider behind
   pub place_is : IsPlace number at before divider line from to
 
 next_place : (number at : ℕ) (first : List ℕ) (before : List (List ℕ)) (divider : List ℕ) (line from to : ℕ) → IsPlace (number + 1) (at + (length first + 1)) before divider line from to → IsPlace number at (first ∷ before) divider line from to
@@ -152,12 +152,12 @@ first_place : (number at : ℕ) (divider : List ℕ) → IsPlace number at [] di
 unfolding fed
 first_place number at divider = record { line_is = omega arith; from_is = omega arith; to_is = refl }
 
-cut_here : (number at : ℕ) (line : List ℕ) (lines : List (List ℕ)) → is_divider journal_word line ≡ true → CutAt number at (line ∷ lines) number at (at + length line)
-cut_here number at line lines is =
+cut_here : (word : List ℕ) (number at : ℕ) (line : List ℕ) (lines : List (List ℕ)) → is_divider word line ≡ true → CutAt word number at (line ∷ lines) number at (at + length line)
+cut_here word number at line lines is =
     record { before = []; divider = line; behind = lines; cut = record { joins = refl; first = refl; is = is }; place_is = first_place number at line }
 
-cut_later : (number at : ℕ) (first : List ℕ) (lines : List (List ℕ)) (line from to : ℕ) → is_divider journal_word first ≡ false → CutAt (number + 1) (at + (length first + 1)) lines line from to → CutAt number at (first ∷ lines) line from to
-cut_later number at first lines line from to is later = record {
+cut_later : (word : List ℕ) (number at : ℕ) (first : List ℕ) (lines : List (List ℕ)) (line from to : ℕ) → is_divider word first ≡ false → CutAt word (number + 1) (at + (length first + 1)) lines line from to → CutAt word number at (first ∷ lines) line from to
+cut_later word number at first lines line from to is later = record {
   before = first ∷ later.before;
   divider = later.divider;
   behind = later.behind;
@@ -166,43 +166,43 @@ cut_later number at first lines line from to is later = record {
 }
 
 -- the divider that is found cuts the lines
-pub cut_found : (number at : ℕ) (lines : List (List ℕ)) → IfSome (divider_from journal_word number at lines) (λ place. CutAt number at lines place.line place.from place.to)
+pub cut_found : (word : List ℕ) (number at : ℕ) (lines : List (List ℕ)) → IfSome (divider_from word number at lines) (λ place. CutAt word number at lines place.line place.from place.to)
 unfolding divider_from
-cut_found number at [] = tt
-cut_found number at (line ∷ lines) =
-    here_or_later (divider_from journal_word (number + 1) (at + (length line + 1)) lines) _ (λ place. CutAt number at (line ∷ lines) place.line place.from place.to) (is_divider journal_word line)
-    (λ is. cut_here number at line lines is)
-    (λ is. if_then (divider_from journal_word (number + 1) (at + (length line + 1)) lines) (λ place. CutAt (number + 1) (at + (length line + 1)) lines place.line place.from place.to)
-    (λ place. CutAt number at (line ∷ lines) place.line place.from place.to) (λ place later. cut_later number at line lines place.line place.from place.to is later) (cut_found (number + 1) (at + (length line + 1)) lines))
+cut_found word number at [] = tt
+cut_found word number at (line ∷ lines) =
+    here_or_later (divider_from word (number + 1) (at + (length line + 1)) lines) _ (λ place. CutAt word number at (line ∷ lines) place.line place.from place.to) (is_divider word line)
+    (λ is. cut_here word number at line lines is)
+    (λ is. if_then (divider_from word (number + 1) (at + (length line + 1)) lines) (λ place. CutAt word (number + 1) (at + (length line + 1)) lines place.line place.from place.to)
+    (λ place. CutAt word number at (line ∷ lines) place.line place.from place.to) (λ place later. cut_later word number at line lines place.line place.from place.to is later) (cut_found word (number + 1) (at + (length line + 1)) lines))
 
 passes : (b c : Bool) → (not b && c) ≡ true → (b ≡ false) × (c ≡ true)
 passes true c e = absurd (cc)
 passes false c e = (refl, e)
 
 -- the divider of lines that are cut is found
-found_joined : (number at : ℕ) (before : List (List ℕ)) (divider : List ℕ) (behind : List (List ℕ)) → list_all (λ line. not (is_divider journal_word line)) before ≡ true → is_divider journal_word divider ≡ true
-    → MatchOption (divider_from journal_word number at (before ++ divider ∷ behind)) ⊥ (λ place. IsPlace number at before divider place.line place.from place.to)
+found_joined : (word : List ℕ) (number at : ℕ) (before : List (List ℕ)) (divider : List ℕ) (behind : List (List ℕ)) → list_all (λ line. not (is_divider word line)) before ≡ true → is_divider word divider ≡ true
+    → MatchOption (divider_from word number at (before ++ divider ∷ behind)) ⊥ (λ place. IsPlace number at before divider place.line place.from place.to)
 unfolding divider_from
-found_joined number at [] divider behind first is =
-    surely_here (divider_from journal_word (number + 1) (at + (length divider + 1)) behind) _ (λ place. IsPlace number at [] divider place.line place.from place.to) (is_divider journal_word divider) is (first_place number at divider)
-found_joined number at (line ∷ before) divider behind first is =
-    let parts = passes (is_divider journal_word line) (list_all (λ l. not (is_divider journal_word l)) before) first in
-    surely_later (divider_from journal_word (number + 1) (at + (length line + 1)) (before ++ divider ∷ behind)) _ (λ place. IsPlace number at (line ∷ before) divider place.line place.from place.to) (is_divider journal_word line) parts.0
-    (match_then (divider_from journal_word (number + 1) (at + (length line + 1)) (before ++ divider ∷ behind)) (λ place. IsPlace (number + 1) (at + (length line + 1)) before divider place.line place.from place.to)
+found_joined word number at [] divider behind first is =
+    surely_here (divider_from word (number + 1) (at + (length divider + 1)) behind) _ (λ place. IsPlace number at [] divider place.line place.from place.to) (is_divider word divider) is (first_place number at divider)
+found_joined word number at (line ∷ before) divider behind first is =
+    let parts = passes (is_divider word line) (list_all (λ l. not (is_divider word l)) before) first in
+    surely_later (divider_from word (number + 1) (at + (length line + 1)) (before ++ divider ∷ behind)) _ (λ place. IsPlace number at (line ∷ before) divider place.line place.from place.to) (is_divider word line) parts.0
+    (match_then (divider_from word (number + 1) (at + (length line + 1)) (before ++ divider ∷ behind)) (λ place. IsPlace (number + 1) (at + (length line + 1)) before divider place.line place.from place.to)
     (λ place. IsPlace number at (line ∷ before) divider place.line place.from place.to) (λ place later. next_place number at line before divider place.line place.from place.to later)
-    (found_joined (number + 1) (at + (length line + 1)) before divider behind parts.1 is))
+    (found_joined word (number + 1) (at + (length line + 1)) before divider behind parts.1 is))
 
-pub found_cut : (number at : ℕ) (lines before : List (List ℕ)) (divider : List ℕ) (behind : List (List ℕ)) → IsCut lines before divider behind
-    → MatchOption (divider_from journal_word number at lines) ⊥ (λ place. IsPlace number at before divider place.line place.from place.to)
-found_cut number at lines before divider behind cut =
-    subst (λ (ls : List (List ℕ)). MatchOption (divider_from journal_word number at ls) ⊥ (λ place. IsPlace number at before divider place.line place.from place.to)) (sym cut.joins)
-    (found_joined number at before divider behind cut.first cut.is)
+pub found_cut : (word : List ℕ) (number at : ℕ) (lines before : List (List ℕ)) (divider : List ℕ) (behind : List (List ℕ)) → IsCut word lines before divider behind
+    → MatchOption (divider_from word number at lines) ⊥ (λ place. IsPlace number at before divider place.line place.from place.to)
+found_cut word number at lines before divider behind cut =
+    subst (λ (ls : List (List ℕ)). MatchOption (divider_from word number at ls) ⊥ (λ place. IsPlace number at before divider place.line place.from place.to)) (sym cut.joins)
+    (found_joined word number at before divider behind cut.first cut.is)
 
 -- ---- the parts of a text that is cut
 
 pub record PartsAre (text : List ℕ) (before behind : List (List ℕ)) (line from to : ℕ) : Type 0 where
   pub script : take from text ≡ fed before
-  pub journal : text_lines (drop (to + 1) text) ≡ whole_lines behind
+  pub bytes : text_lines (drop (to + 1) text) ≡ whole_lines behind
   pub room : line + 1 + length (drop (to + 1) text) ≤ length text + 2
 
 -- each line has its line feed
@@ -228,10 +228,10 @@ parts_of_cut text before divider behind line from to is cut =
     let left : length (drop (to + 1) text) ≡ length (drop 1 cut.tail) = ap length rest in
     record {
       script = ap (λ (n : ℕ). take n text) start ∙ script;
-      journal = ap text_lines rest ∙ cut.left;
+      bytes = ap text_lines rest ∙ cut.left;
       room = omega (arith, is.line_is, size, left, drop_past cut.tail, fed_size before);
     }
 
-pub parts_are : (text : List ℕ) (before : List (List ℕ)) (divider : List ℕ) (behind : List (List ℕ)) (line from to : ℕ) → IsCut (lines_of text) before divider behind → IsPlace 1 0 before divider line from to → PartsAre text before behind line from to
-parts_are text before divider behind line from to cut is =
+pub parts_are : (word text : List ℕ) (before : List (List ℕ)) (divider : List ℕ) (behind : List (List ℕ)) (line from to : ℕ) → IsCut word (lines_of text) before divider behind → IsPlace 1 0 before divider line from to → PartsAre text before behind line from to
+parts_are word text before divider behind line from to cut is =
     parts_of_cut text before divider behind line from to is (text_is_cut text before divider behind cut.joins)

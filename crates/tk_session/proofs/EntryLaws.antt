@@ -32,11 +32,11 @@ below_fits limit n None e = absurd (cc)
 below_fits limit n (Some m) e =
     let chosen = value_chosen (ltb m limit) m n e in subst (λ (k : ℕ). k < limit) chosen.1 ((Decides-ltb m limit).0 chosen.0)
 
-u8_fits : (word : List ℕ) (n : ℕ) → u8_at word ≡ Some n → n < 2 ^ 8
+pub u8_fits : (word : List ℕ) (n : ℕ) → u8_at word ≡ Some n → n < 2 ^ 8
 unfolding u8_at
 u8_fits word n e = below_fits (2 ^ 8) n (natural_at word) e
 
-u32_fits : (word : List ℕ) (n : ℕ) → u32_at word ≡ Some n → n < 2 ^ 32
+pub u32_fits : (word : List ℕ) (n : ℕ) → u32_at word ≡ Some n → n < 2 ^ 32
 unfolding u32_at
 u32_fits word n e = below_fits (2 ^ 32) n (natural_at word) e
 

@@ -15,6 +15,18 @@ use Rattle.tk_session.specs.declared.session.Session.{Session}
 use Rattle.tk_session.specs.declared.session.SessionReading.{SessionReading}
 use Rattle.tk_session.specs.declared.session.SessionReading.TheVariants as readings
 
+-- ---- a script and what stands behind it
+
+-- what stands behind the divider, read in a way of its own; where no line is the divider, the line behind the last is refused
+abbrev pub behind_script : {A : Type 0} → (Script → Rest → Result A Refusal) → List ℕ → Option Rest → Script → Result A Refusal
+behind_script read text None script = Err (length (text_lines text) + 1, whys.End)
+behind_script read text (Some rest) script = read script rest
+
+-- the parts of a text: the script is refused before what stands behind it
+abbrev pub parts_reading : {A : Type 0} → (Script → Rest → Result A Refusal) → List ℕ → Option Parts → Result A Refusal
+parts_reading read text None = Err (0, whys.Long)
+parts_reading read text (Some parts) = reading parts.script >>= behind_script read text parts.behind
+
 -- ---- the journal
 
 -- the entry whose text a line is
@@ -43,19 +55,13 @@ abbrev pub with_script : Script → Result (List Entry) Refusal → Result Sessi
 with_script script (Ok journal) = Ok (record { script = script; journal = journal })
 with_script script (Err refusal) = Err refusal
 
--- what stands behind the divider; where no line is one, the line behind the last is refused
-abbrev pub behind_script : List ℕ → Option Rest → Script → Result Session Refusal
-behind_script text None script = Err (length (text_lines text) + 1, whys.End)
-behind_script text (Some rest) script = with_script script (entries_from rest.line (text_lines rest.bytes))
-
--- the parts of a text: the script is refused before what stands behind it
-abbrev pub parts_reading : List ℕ → Option Parts → Result Session Refusal
-parts_reading text None = Err (0, whys.Long)
-parts_reading text (Some parts) = reading parts.script >>= behind_script text parts.behind
+-- a script with the journal that is read behind it
+abbrev pub journal_behind : Script → Rest → Result Session Refusal
+journal_behind script rest = with_script script (entries_from rest.line (text_lines rest.bytes))
 
 -- the session that a text spells, or the line and the reason for which it is refused
 unfoldable pub session_reading : List ℕ → Result Session Refusal
-session_reading text = parts_reading text (session dividers.Journal text)
+session_reading text = parts_reading journal_behind text (session dividers.Journal text)
 
 -- what is answered
 abbrev pub answer : Result Session Refusal → SessionReading

@@ -1,2 +1,3 @@
--- Small journals and what they are read as, each a theorem over the definitions by computation.
+-- Small journals and small traces, and what they are read as, each a theorem over the definitions by computation.
 pub mod Journals
+pub mod Traces

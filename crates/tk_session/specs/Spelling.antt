@@ -14,15 +14,11 @@ unfoldable pub fed : List (List ℕ) → List ℕ
 fed [] = []
 fed (line ∷ lines) = line ++ 10 ∷ fed lines
 
--- the word that alone makes the line between a script and its journal
-abbrev pub journal_word : List ℕ
-journal_word = divider_word dividers.Journal
-
--- lines cut at the first one whose only word is the divider
-pub record IsCut (lines before : List (List ℕ)) (divider : List ℕ) (behind : List (List ℕ)) : Type 0 where
+-- lines cut at the first one that has this word alone
+pub record IsCut (word : List ℕ) (lines before : List (List ℕ)) (divider : List ℕ) (behind : List (List ℕ)) : Type 0 where
   pub joins : lines ≡ before ++ divider ∷ behind
-  pub first : list_all (λ line. not (is_divider journal_word line)) before ≡ true
-  pub is : is_divider journal_word divider ≡ true
+  pub first : list_all (λ line. not (is_divider word line)) before ≡ true
+  pub is : is_divider word divider ≡ true
 
 -- a text spells a session: the lines before the divider spell its script, and those behind it are the texts of its entries
 pub record SpellsSession (text : List ℕ) (session : Session) : Type 0 where
@@ -30,7 +26,7 @@ pub record SpellsSession (text : List ℕ) (session : Session) : Type 0 where
   pub before : List (List ℕ)
   pub divider : List ℕ
   pub behind : List (List ℕ)
-  pub cut : IsCut (lines_of text) before divider behind
+  pub cut : IsCut (divider_word dividers.Journal) (lines_of text) before divider behind
   pub script : Spells (fed before) session.script
   pub journal : whole_lines behind ≡ map text_of_entry session.journal
   pub entries : AllByRecursion IsEntry session.journal

@@ -1,6 +1,7 @@
 //! The lines of a journal as its entries.
 
 ghost use Rattle.std.specs.Prelude.{◌≡◌, ◌≤◌, ◌+◌, ◌<◌, ◌^◌, [], length, IfOk};
+ghost use Rattle.tk_types.specs.declared.why.Why.TheVariants as whys;
 ghost use Rattle.tk_model.specs.TextLines.{text_lines};
 ghost use Rattle.tk_session.specs.Gives.{GivesEntries};
 ghost use Rattle.tk_session.specs.Reading.{entries_from, line_entry};
@@ -13,7 +14,7 @@ use tk_types::{Entry, Sequence};
 /// The bytes of the shortest line of a journal, with its line feed: `0 0 0 done`.
 const SHORTEST_LINE: usize = 11;
 
-/// Why a journal isn't read: memory ran out, or that line is the text of no entry.
+/// Why entries aren't read: memory ran out, or that line is the text of no entry, or of no line of a trace.
 #[derive(Clone, Copy, Debug, PartialEq, Eq)]
 pub(crate) enum JournalError {
     Memory,
@@ -42,7 +43,7 @@ pub(crate) fn read_journal(
     lines: &[u8],
 ) -> Result<Sequence<Entry>, JournalError>
     requires { first + length lines.now < 2 ^ 32 }
-    ensures { GivesEntries result (entries_from first (text_lines lines.now)) }
+    ensures { GivesEntries whys.Journal result (entries_from first (text_lines lines.now)) }
 {
     let Ok(mut entries) = room_for(alloc, lines) else {
         return Err(JournalError::Memory);

@@ -6,7 +6,7 @@ ghost use Rattle.tk_text.specs.Sessions.{session_limit};
 ghost use Rattle.tk_session.specs.Spelling.{SpellsSession};
 ghost use Rattle.tk_session.specs.declared.session.Session.{Session as TheSession};
 ghost use Rattle.tk_session.specs.declared.session.SessionReading.TheVariants as readings;
-ghost use Rattle.tk_session.specs.Reading.{answer, behind_script, entries_from, session_reading, with_script};
+ghost use Rattle.tk_session.specs.Reading.{answer, behind_script, entries_from, journal_behind, session_reading, with_script};
 
 use crate::journal::{JournalError, read_journal};
 use crate::lines::line_count;
@@ -39,7 +39,7 @@ fn with_journal(
 /// What a text without a divider is read as, whose script was read.
 fn without_journal(text: &[u8], script: Script) -> SessionReading
     requires { length text.now ≤ session_limit }
-    ensures { result ≡ answer (behind_script text.now None script) }
+    ensures { result ≡ answer (behind_script journal_behind text.now None script) }
 {
     SessionReading::Refused {
         line: line_count(text) as u32 + 1,

@@ -5,7 +5,8 @@ use Rattle.tk_types.specs.declared.line.Line.{Line}
 use Rattle.tk_model.specs.LineText.{text_of_lines}
 use Rattle.tk_run.specs.Replays.{WriteAnswers}
 use Rattle.tk_run.specs.FedTurns.{TurnGives, next_course}
-use Rattle.tk_run.proofs.Replays.{begins_certain, begins_outcome, feeding_begins, feeds_on, goes_on, last_certain, last_outcome, nothing_written, over_remaining, turn_first, unwritten_certain, unwritten_outcome}
+use Rattle.tk_run.specs.declared.replay.RunEnd.{RunEnd}
+use Rattle.tk_run.proofs.Replays.{begins_certain, begins_outcome, feeding_begins, feeds_on, goes_on, last_certain, last_outcome, last_steps, nothing_written, status_steps, over_remaining, turn_first, unwritten_certain, unwritten_outcome}
 use Rattle.tk_run.proofs.replay.replay_machine.Goals as goal
 use Rattle.tk_run.proofs.replay.replay_machine.Goals.{in-Fed, in-Went}
 
@@ -14,13 +15,13 @@ returns-in-Err-clause-outcome g c =
     let old = c.args.machine.now in
     begins_outcome _ _ old.script c.args.mode c.args.budget c.args.journal.now old c.in-Err.failure _ c.requires.fresh
     (subst (λ (lines : List Line). WriteAnswers (g.K.Sink.held c.args.sink.now) (g.K.Sink.held c.write_lines.new.sink) (text_of_lines lines) (Err c.in-Err.failure)) (c.deref.ensures.value ∙ c.take_lines-started.ensures.taken) c.in-Err.ensures.answer)
-    c.failure_status.ensures
+    (ap (λ (e : RunEnd). e.status) c.unwritten.ensures)
 
 pub returns-in-Err-clause-certain : goal.returns-in-Err-clause-certain
 returns-in-Err-clause-certain g c =
     let old = c.args.machine.now in
     begins_certain (g.K.Sink.held c.args.sink.now) _ _ _ old.script c.args.mode c.args.budget c.args.journal.now old c.in-Err.failure _ c.requires.fresh
-    (rw (c.deref.ensures.value, c.take_lines-started.ensures.taken) at c.in-Err.ensures.certain) c.failure_status.ensures
+    (rw (c.deref.ensures.value, c.take_lines-started.ensures.taken) at c.in-Err.ensures.certain) (ap (λ (e : RunEnd). e.status) c.unwritten.ensures)
 
 pub turns-init : goal.turns-init
 turns-init g c =
@@ -41,7 +42,7 @@ returns-in-Err-write_lines-clause-outcome g c =
     let first = turn_first m _ (c.turns.taken + 1) ((c.args.budget + length c.args.journal.now) - c.turns._turn) _ entries c.in-Ok.turn (omega arith) gives in
     unwritten_outcome _ first.0 c.in-Ok.turn.lines.items c.in-Err-write_lines.failure _ c.turns.invariant.running first.1
     (subst (λ (lines : List Line). WriteAnswers (g.K.Sink.held c.turns.sink) (g.K.Sink.held c.write_lines-in-turns.new.sink) (text_of_lines lines) (Err c.in-Err-write_lines.failure)) c.deref-in-turns.ensures.value c.in-Err-write_lines.ensures.answer)
-    c.failure_status-in-Err-write_lines.ensures
+    (ap (λ (e : RunEnd). e.status) c.unwritten-in-Err-write_lines.ensures)
 
 pub returns-in-Err-write_lines-clause-certain : goal.returns-in-Err-write_lines-clause-certain
 returns-in-Err-write_lines-clause-certain g c =
@@ -50,14 +51,14 @@ returns-in-Err-write_lines-clause-certain g c =
     let gives : TurnGives m c.fed_turn.new.machine (next_course m (c.turns.taken + 1) entries) c.in-Ok.turn = rw take_rest at c.in-Ok.ensures in
     let first = turn_first m _ (c.turns.taken + 1) ((c.args.budget + length c.args.journal.now) - c.turns._turn) _ entries c.in-Ok.turn (omega arith) gives in
     unwritten_certain _ first.0 c.in-Ok.turn.lines.items c.in-Err-write_lines.failure _ c.turns.invariant.running first.1
-    (rw c.deref-in-turns.ensures.value at c.in-Err-write_lines.ensures.certain) c.failure_status-in-Err-write_lines.ensures
+    (rw c.deref-in-turns.ensures.value at c.in-Err-write_lines.ensures.certain) (ap (λ (e : RunEnd). e.status) c.unwritten-in-Err-write_lines.ensures)
 
 pub returns-in-Over-clause-outcome : goal.returns-in-Over-clause-outcome
 returns-in-Over-clause-outcome g c =
     let m = c.turns.machine in
     let entries = drop c.turns.taken c.args.journal.now in
     let gives : TurnGives m c.fed_turn.new.machine (next_course m (c.turns.taken + 1) entries) c.in-Ok.turn = rw take_rest at c.in-Ok.ensures in
-    last_outcome _ c.in-Ok.turn.lines.items c.in-Over.last _ c.turns.invariant.running
+    last_outcome _ c.in-Ok.turn.lines.items c.in-Over.last c.in-Ok.turn.steps _ c.turns.invariant.running
     (over_remaining m _ (c.turns.taken + 1) ((c.args.budget + length c.args.journal.now) - c.turns._turn) _ entries c.in-Ok.turn c.in-Over.last (omega arith) gives c.in-Over.is)
     (rw c.deref-in-turns.ensures.value at c.in_default-write_lines.ensures.answer) c.status_of_last.ensures
 
@@ -66,9 +67,19 @@ returns-in-Over-clause-certain g c =
     let m = c.turns.machine in
     let entries = drop c.turns.taken c.args.journal.now in
     let gives : TurnGives m c.fed_turn.new.machine (next_course m (c.turns.taken + 1) entries) c.in-Ok.turn = rw take_rest at c.in-Ok.ensures in
-    last_certain _ c.in-Ok.turn.lines.items c.in-Over.last _ c.turns.invariant.running
+    last_certain _ c.in-Ok.turn.lines.items c.in-Over.last c.in-Ok.turn.steps _ c.turns.invariant.running
     (over_remaining m _ (c.turns.taken + 1) ((c.args.budget + length c.args.journal.now) - c.turns._turn) _ entries c.in-Ok.turn c.in-Over.last (omega arith) gives c.in-Over.is)
     (rw c.deref-in-turns.ensures.value at c.in_default-write_lines.ensures.certain) c.status_of_last.ensures
+
+pub returns-in-Over-clause-steps : goal.returns-in-Over-clause-steps
+returns-in-Over-clause-steps g c =
+    let m = c.turns.machine in
+    let entries = drop c.turns.taken c.args.journal.now in
+    let gives : TurnGives m c.fed_turn.new.machine (next_course m (c.turns.taken + 1) entries) c.in-Ok.turn = rw take_rest at c.in-Ok.ensures in
+    rw c.status_of_last.ensures
+    (status_steps c.in-Over.last _ c.in-Ok.turn.steps
+    (last_steps c.in-Ok.turn.lines.items c.in-Over.last c.in-Ok.turn.steps c.turns.invariant.running
+    (over_remaining m _ (c.turns.taken + 1) ((c.args.budget + length c.args.journal.now) - c.turns._turn) _ entries c.in-Ok.turn c.in-Over.last (omega arith) gives c.in-Over.is)))
 
 pub turns-preserved : goal.turns-preserved
 turns-preserved g c =

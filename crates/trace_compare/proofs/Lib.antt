@@ -1,0 +1,4 @@
+pub mod LineLaws
+pub mod WalkLaws
+pub mod DifferenceLaws
+pub mod ToldLaws
