@@ -25,3 +25,5 @@ mod task_runs;
 mod tests;
 #[cfg(test)]
 mod time_runs;
+#[cfg(test)]
+mod verify_runs;

@@ -86,6 +86,5 @@ pub fn program<R: Threads + Wait + Copy + Send + Sync + 'static, S: Source, K: S
             (verify_session(alloc, mode, budget, source, sink), None)
         }
         Command::Check => (check_script(alloc, source, sink), None),
-        Command::Generate { .. } => (tell_usage(sink), None),
     }
 }
