@@ -8,6 +8,8 @@ mod driver_runs;
 #[cfg(test)]
 mod failing_runs;
 #[cfg(test)]
+mod flooding_runs;
+#[cfg(test)]
 mod hook_runs;
 #[cfg(test)]
 mod mail_runs;
