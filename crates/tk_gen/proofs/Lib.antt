@@ -1,0 +1,7 @@
+pub mod DrawnNumbers
+pub mod Names
+pub mod Bodies
+pub mod Scripts
+pub mod Counted
+pub mod Drivings
+pub mod SumTexts

@@ -7,7 +7,7 @@ use std::alloc::Global;
 use tk_types::OutOfMemory;
 
 /// The number behind one of the generator's.
-#[tactic(auto, using(crate::proofs::Draws::drawn_small))]
+#[tactic(auto, using(crate::proofs::DrawnNumbers::drawn_small))]
 fn next_number(number: u32) -> u32
     ensures { result ≡ drawn number }
 {
@@ -15,6 +15,7 @@ fn next_number(number: u32) -> u32
 }
 
 /// So many draws from a number on. Each is below 32,768.
+#[tactic(auto, using(crate::proofs::DrawnNumbers::next_draw, crate::proofs::DrawnNumbers::last_draw))]
 pub(crate) fn draws(alloc: Global, count: usize, number: u32) -> Result<Vec<u16>, OutOfMemory>
     ensures drawn { IfOk result (λ list. list.items ≡ draws count number) }
     ensures many { IfOk result (λ list. length list.items ≡ count) }

@@ -1,9 +1,8 @@
 //! The script with a number.
 
-ghost use Rattle.std.specs.Prelude.{◌≡◌, ◌≤◌, ◌<◌, ◌*◌, ◌++◌, true, codes, decimal, drop, length, take, IfOk, OnOk};
-ghost use Rattle.dev_layer.specs.Tables.{AreDevices};
-ghost use Rattle.kernel_model.specs.Bodies.Statements.{IsRunnable};
+ghost use Rattle.std.specs.Prelude.{◌≡◌, ◌≤◌, ◌<◌, ◌*◌, ◌++◌, true, codes, decimal, length, IfOk, OnOk};
 ghost use Rattle.machine_model.specs.Runs.Generator.{drawn_bodies, generated};
+ghost use Rattle.tk_gen.specs.Objects.{bodies_of, the_device};
 ghost use Rattle.tk_types.specs.Names.{name_at_most};
 
 use crate::draws::draws;
@@ -70,28 +69,47 @@ fn push_drawn(
     Ok(())
 }
 
-/// The script with a number: 100 tasks beside the boot task, with 40 statements each, which share a semaphore, a mutex, a message
-/// buffer and a device. Its draws begin with the number. `OutOfMemory` comes only where the host's memory runs out.
-pub fn generated(alloc: Global, number: u16) -> Result<Script, OutOfMemory>
-    ensures script { IfOk result (λ script. script ≡ generated number) }
-    ensures runnable { IfOk result (λ script. IsRunnable script) }
-    ensures devices { IfOk result (λ script. AreDevices script.devices) }
+/// The bodies of a script with these draws: that of the boot task, and those of 100 tasks.
+#[tactic(auto, using(crate::proofs::Names::main_named))]
+fn bodies_of(alloc: Global, device: Name, draws: &[u16]) -> Result<Sequence<Body>, OutOfMemory>
+    requires name { device ≡ codes "d1" }
+    requires many { length draws.now ≡ 8100 }
+    ensures { IfOk result (λ bodies. bodies ≡ bodies_of draws.now) }
 {
-    let draws = draws(alloc, TASKS + 2 * STATEMENTS * TASKS, u32::from(number))?;
-    let device = named(b"d1");
-    let mut devices = Sequence::new(alloc);
-    devices.push(Device {
-        name: device,
-        kind: Kind::Ram(DEVICE_SIZE),
-    })?;
+    let stmts = main_statements(alloc, device, &draws[..TASKS])?;
     let mut bodies = Sequence::new(alloc);
     bodies.push(Body {
         name: named(b"main"),
         kind: BodyKind::Task,
         labels: Sequence::new(alloc),
-        stmts: main_statements(alloc, device, &draws[..TASKS])?,
+        stmts,
     })?;
     push_drawn(alloc, &mut bodies, TASKS as u8, &draws[TASKS..])?;
+    Ok(bodies)
+}
+
+/// The one device of a script: memory by the name `d1`.
+#[tactic(auto, using(crate::proofs::Names::device_named))]
+fn the_device() -> Device
+    ensures { result ≡ the_device }
+{
+    Device {
+        name: named(b"d1"),
+        kind: Kind::Ram(DEVICE_SIZE),
+    }
+}
+
+/// The script with a number: 100 tasks beside the boot task, with 40 statements each, which share a semaphore, a mutex, a message
+/// buffer and a device. Its draws begin with the number. `OutOfMemory` comes only where the host's memory runs out.
+#[tactic(auto, using(crate::proofs::Scripts::generated_is))]
+pub fn generated(alloc: Global, number: u16) -> Result<Script, OutOfMemory>
+    ensures { IfOk result (λ script. script ≡ generated number) }
+{
+    let draws = draws(alloc, TASKS + 2 * STATEMENTS * TASKS, u32::from(number))?;
+    let device = the_device();
+    let bodies = bodies_of(alloc, device.name, &draws)?;
+    let mut devices = Sequence::new(alloc);
+    devices.push(device)?;
     Ok(Script {
         devices,
         pace: None,

@@ -1,7 +1,8 @@
 //! The statements of the bodies of a generated script.
 
-ghost use Rattle.std.specs.Prelude.{◌≡◌, ◌≤◌, ◌<◌, ◌+◌, ◌*◌, ◌%◌, ◌++◌, ◌∷◌, [], IfOk, OnOk, drop, length, pos};
+ghost use Rattle.std.specs.Prelude.{◌≡◌, ◌≤◌, ◌<◌, ◌*◌, ◌++◌, ◌∷◌, [], IfOk, OnOk, codes, length, pos};
 ghost use Rattle.machine_model.specs.Runs.Generator.{drawn_call, drawn_statements, main_statements, making_from};
+ghost use Rattle.tk_gen.specs.Objects.{objects_made};
 
 use std::alloc::Global;
 use tk_types::{Arg, CallName, Name, OutOfMemory, Sequence, Stmt};
@@ -33,18 +34,27 @@ fn number(value: u16) -> Arg
 fn drawn_call(alloc: Global, which: u16, a: u16) -> Result<Stmt, OutOfMemory>
     ensures { IfOk result (λ stmt. stmt ≡ drawn_call which a) }
 {
-    let one = number(1);
-    let none = number(0);
-    let a = number(a);
     match which {
-        0 => call(alloc, CallName::TkSigSem, &[one, one]),
-        1 => call(alloc, CallName::TkWaiSem, &[one, one, a]),
-        2 => call(alloc, CallName::TkLocMtx, &[one, a]),
-        3 => call(alloc, CallName::TkUnlMtx, &[one]),
-        4 => call(alloc, CallName::TkSndMbf, &[one, none, number(8), a]),
-        5 => call(alloc, CallName::TkRcvMbf, &[one, number(64), a]),
-        6 => call(alloc, CallName::TkDlyTsk, &[a]),
-        _ => call(alloc, CallName::TkSwriDev, &[one, a, none, number(16)]),
+        0 => call(alloc, CallName::TkSigSem, &[number(1), number(1)]),
+        1 => call(alloc, CallName::TkWaiSem, &[number(1), number(1), number(a)]),
+        2 => call(alloc, CallName::TkLocMtx, &[number(1), number(a)]),
+        3 => call(alloc, CallName::TkUnlMtx, &[number(1)]),
+        4 => call(
+            alloc,
+            CallName::TkSndMbf,
+            &[number(1), number(0), number(8), number(a)],
+        ),
+        5 => call(
+            alloc,
+            CallName::TkRcvMbf,
+            &[number(1), number(64), number(a)],
+        ),
+        6 => call(alloc, CallName::TkDlyTsk, &[number(a)]),
+        _ => call(
+            alloc,
+            CallName::TkSwriDev,
+            &[number(1), number(a), number(0), number(16)],
+        ),
     }
 }
 
@@ -67,6 +77,7 @@ pub(crate) fn drawn_statements(
 
 /// Puts the two statements that make and start a task behind others. Task `task`, of 254 at most, begins the body with its number
 /// behind that of the boot body, and a draw gives its priority.
+#[tactic(auto, using(std::proofs::Common::append_assoc), unfolding(machine_model::specs::Runs::Generator::making_from))]
 fn push_making(
     alloc: Global,
     list: &mut Sequence<Stmt>,
@@ -86,7 +97,8 @@ fn push_making(
     list.push(made)?;
     let id = number(u16::from(task) + 1);
     let started = call(alloc, CallName::TkStaTsk, &[id, number(0)])?;
-    list.push(started)
+    list.push(started)?;
+    Ok(())
 }
 
 /// Puts the statements that make the objects which all tasks share behind others: a semaphore, a mutex and a message buffer. The
