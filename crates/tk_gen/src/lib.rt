@@ -1,13 +1,17 @@
 //! The generator of scripts: the script with a number, its run in sync mode, and the line that sums that run up.
 #![tactic(auto)]
 
-pub mod counts;
+mod counts;
 mod draws;
-pub mod driving;
+mod driving;
 mod script;
+mod running;
 mod statements;
 mod summary;
+#[cfg(test)]
+mod tests;
 
 pub use script::generated;
+pub use running::summed_up;
 pub use summary::{Summary, summary_text};
 pub use tk_types::OutOfMemory;
