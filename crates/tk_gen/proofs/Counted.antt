@@ -1,10 +1,10 @@
 -- Lines are counted one after another.
-use Rattle.std.proofs.Common.{ℕ, ◌+◌, ◌<◌, ◌≤◌, ◌^◌, ◌≡◌, Bool, true, false, List, [], ◌∷◌, ◌++◌, length, drop, refl, ap, sym, subst, ◌∙◌, arith}
+use Rattle.std.proofs.Common.{ℕ, ◌+◌, ◌≡◌, Bool, List, [], ◌++◌, ap, ◌∙◌, arith}
 use Rattle.std.specs.Prelude.{cond, count_by}
 use Rattle.std.proofs.lemmas.List.Sums.{sum_by-append}
 use Rattle.tk_types.specs.declared.line.Line.{Line}
 use Rattle.tk_gen.specs.declared.counts.Counts.{Counts}
-use Rattle.tk_gen.specs.Counts.{Fits, HasRoom, counted_on, is_call, is_ending, is_tick, is_wait}
+use Rattle.tk_gen.specs.Counts.{counted_on, is_call, is_ending, is_tick, is_wait}
 
 pub count_both : {A : Type 0} → (p : A → Bool) (xs ys : List A) → count_by p (xs ++ ys) ≡ count_by p xs + count_by p ys
 count_both p xs ys = sum_by-append (λ x. cond (p x) 1 0) xs ys

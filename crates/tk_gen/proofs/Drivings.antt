@@ -1,16 +1,14 @@
 -- A driver that serves a request by itself, turn by turn, gives the ending of the request done whole.
 use Rattle.std.proofs.Common.{◌≡◌, ℕ, suc, ◌+◌, ◌-◌, ◌*◌, ◌≤◌, ◌<◌, Bool, true, false, not, ◌&&◌, List, [], Option, Some, None, refl, ap, sym, subst, ◌∙◌, arith}
-use Rattle.std.specs.Prelude.{if◌then◌else◌, nat_le, nat_lt}
-use Rattle.std.specs.Option.{is_some, option_map}
+use Rattle.std.specs.Prelude.{if◌then◌else◌, nat_lt}
+use Rattle.std.specs.Option.{option_map}
 use Rattle.std.proofs.lemmas.Bool.Decides.{nat_tests}
 use Rattle.tk_types.specs.declared.line.How.TheVariants.{Done}
-use Rattle.tk_types.specs.declared.script.Kind.{Kind}
 use Rattle.device_model.specs.declared.messages.Ending.{Ending}
 use Rattle.device_model.specs.declared.messages.Message.TheVariants as message
 use Rattle.device_model.specs.declared.messages.Request.{Request}
-use Rattle.device_model.specs.Units.Blocks.{Partial, block, blocks, is_last}
+use Rattle.device_model.specs.Units.Blocks.{Partial, blocks, is_last}
 use Rattle.device_model.specs.Units.Function.{IsWhole, Served, begin, block_size, count_of, unit}
-use Rattle.device_model.specs.Units.Stores.{Store}
 use Rattle.device_model.specs.Devices.Endings.{ending_of}
 use Rattle.driver_model.specs.Cores.{Core, after_block, after_ending, after_message, done, empty_turns, ending_out, has_work, next_block, turned, went_on, worked}
 use Rattle.unit_laws.proofs.Counts.{count_bounds}

@@ -5,5 +5,3 @@ pub mod Scripts
 pub mod Counted
 pub mod Drivings
 pub mod SumTexts
-pub mod LineCounts
-pub mod OneDevice

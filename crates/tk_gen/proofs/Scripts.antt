@@ -1,7 +1,6 @@
 -- A generated script is one that the machine can run.
-use Rattle.std.proofs.Common.{ℕ, ◌≡◌, ◌≤◌, ◌∷◌, [], List, refl, ap, sym, ◌∙◌, arith}
+use Rattle.std.proofs.Common.{ℕ, ◌≡◌, ◌∷◌, [], List, refl, ap, arith}
 use Rattle.std.specs.Prelude.{None}
-use Rattle.std.specs.List.{All}
 use Rattle.std.proofs.lemmas.List.Elements.{All-cons, All-nil}
 use Rattle.tk_types.specs.declared.script.Device.{Device}
 use Rattle.tk_types.specs.declared.script.Script.{Script}

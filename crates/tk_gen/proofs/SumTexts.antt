@@ -3,7 +3,7 @@ use Rattle.std.proofs.Common.{ℕ, ◌≡◌, List, ◌++◌, ap, ◌∙◌}
 use Rattle.std.specs.Prelude.{codes, count_by, decimal}
 use Rattle.machine_model.specs.Runs.Generator.{summary}
 use Rattle.machine_model.specs.Runs.Trace.{Trace}
-use Rattle.tk_gen.specs.Counts.{is_call, is_ending, is_tick, is_wait}
+use Rattle.tk_gen.specs.Counts.{is_call, is_tick, is_wait}
 use Rattle.tk_gen.specs.Summaries.{SumsUp, summed_text}
 use Rattle.tk_gen.specs.declared.summary.Summary.{Summary}
 
@@ -11,8 +11,8 @@ pub text_sums : (summed : Summary) (number : ℕ) (trace : Trace) → SumsUp sum
 unfolding summed_text summary
 text_sums summed number trace sums =
     let text : ℕ → ℕ → ℕ → ℕ → ℕ → ℕ → List ℕ = λ n s c b k j.
-        codes "gen " ++ decimal n ++ codes " steps " ++ decimal s ++ codes " calls " ++ decimal c ++ codes " waits " ++ decimal b
-        ++ codes " ticks " ++ decimal k ++ codes " endings " ++ decimal j ++ codes "\n"
+    codes "gen " ++ decimal n ++ codes " steps " ++ decimal s ++ codes " calls " ++ decimal c ++ codes " waits " ++ decimal b
+    ++ codes " ticks " ++ decimal k ++ codes " endings " ++ decimal j ++ codes "\n"
     in
     ap (λ (n : ℕ). text n summed.steps summed.calls summed.waits summed.ticks summed.endings) sums.number_is
     ∙ (ap (λ (n : ℕ). text number n summed.calls summed.waits summed.ticks summed.endings) sums.steps

@@ -36,7 +36,11 @@ fn drawn_call(alloc: Global, which: u16, a: u16) -> Result<Stmt, OutOfMemory>
 {
     match which {
         0 => call(alloc, CallName::TkSigSem, &[number(1), number(1)]),
-        1 => call(alloc, CallName::TkWaiSem, &[number(1), number(1), number(a)]),
+        1 => call(
+            alloc,
+            CallName::TkWaiSem,
+            &[number(1), number(1), number(a)],
+        ),
         2 => call(alloc, CallName::TkLocMtx, &[number(1), number(a)]),
         3 => call(alloc, CallName::TkUnlMtx, &[number(1)]),
         4 => call(
@@ -103,29 +107,13 @@ fn push_making(
 
 /// Puts the statements that make the objects which all tasks share behind others: a semaphore, a mutex and a message buffer. The
 /// device is opened behind them.
-fn push_objects(
-    alloc: Global,
-    list: &mut Sequence<Stmt>,
-    device: Name,
-) -> Result<(), OutOfMemory>
+fn push_objects(alloc: Global, list: &mut Sequence<Stmt>, device: Name) -> Result<(), OutOfMemory>
     ensures { OnOk result (list.new ≡ list.old ++ objects_made device) }
 {
     let none = Arg::List(0);
-    list.push(call(
-        alloc,
-        CallName::TkCreSem,
-        &[none, number(4), number(100)],
-    )?)?;
-    list.push(call(
-        alloc,
-        CallName::TkCreMtx,
-        &[Arg::List(INHERIT), number(0)],
-    )?)?;
-    list.push(call(
-        alloc,
-        CallName::TkCreMbf,
-        &[none, number(1024), number(32)],
-    )?)?;
+    list.push(call(alloc, CallName::TkCreSem, &[none, number(4), number(100)])?)?;
+    list.push(call(alloc, CallName::TkCreMtx, &[Arg::List(INHERIT), number(0)])?)?;
+    list.push(call(alloc, CallName::TkCreMbf, &[none, number(1024), number(32)])?)?;
     list.push(call(
         alloc,
         CallName::TkOpnDev,

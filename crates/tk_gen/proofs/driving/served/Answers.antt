@@ -1,4 +1,4 @@
-use Rattle.std.proofs.Common.{refl, sym, ◌∙◌}
+use Rattle.std.proofs.Common.{sym, ◌∙◌}
 use Rattle.tk_gen.proofs.Drivings.{begins, gives, leaves, works_less, works_on}
 use Rattle.tk_gen.proofs.driving.served.Goals as goal
 
@@ -19,14 +19,14 @@ turns-preserved c =
 pub unreachable-requires : goal.unreachable-requires
 unreachable-requires c =
     let out = gives c.args.driver.now c.args.request c.turns.driver c.block.new.self c.ending.result c.requires.free c.turns.invariant
-        (sym c.turns-test.false ∙ c.block.ensures.result) c.block.ensures.core c.ending.ensures.result
+    (sym c.turns-test.false ∙ c.block.ensures.result) c.block.ensures.core c.ending.ensures.result
     in
     c.in_default.not-Some _ out
 
 pub returns-clause-ending : goal.returns-clause-ending
 returns-clause-ending c =
     let out = gives c.args.driver.now c.args.request c.turns.driver c.block.new.self c.ending.result c.requires.free c.turns.invariant
-        (sym c.turns-test.false ∙ c.block.ensures.result) c.block.ensures.core c.ending.ensures.result
+    (sym c.turns-test.false ∙ c.block.ensures.result) c.block.ensures.core c.ending.ensures.result
     in
     cc (sym c.in-Some.is ∙ out)
 
