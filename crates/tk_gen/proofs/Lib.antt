@@ -5,3 +5,4 @@ pub mod Scripts
 pub mod Counted
 pub mod Drivings
 pub mod SumTexts
+pub mod LineCounts

@@ -1,5 +1,8 @@
 -- How many lines of a trace are of each kind that a summary tells of.
-use Rattle.std.specs.Prelude.{ℕ, ◌<◌, ◌+◌, ◌^◌, Bool, true, false, List, count_by}
+use Rattle.std.specs.Prelude.{ℕ, ◌≡◌, ◌<◌, ◌+◌, ◌^◌, Bool, true, false, List, count_by}
+use Rattle.tk_types.specs.declared.answer.Answer.{Answer}
+use Rattle.tk_types.specs.declared.call_name.CallName.{CallName}
+use Rattle.tk_types.specs.declared.line.Hook.{Hook}
 use Rattle.tk_types.specs.declared.line.Line.{Line}
 use Rattle.tk_types.specs.declared.line.Line.TheVariants as lines
 use Rattle.tk_gen.specs.declared.counts.Counts.{Counts}
@@ -45,3 +48,9 @@ pub record HasRoom (more : ℕ) (counts : Counts) : Type 0 where
 
 abbrev pub Fits : Counts → Type 0
 Fits counts = HasRoom 0 counts
+
+-- a kind of lines that isn't told of ended waits, dispatches, hooks, nor of the end
+pub record IsPlain (p : Line → Bool) : Type 0 where
+  pub released : (n task : ℕ) (call : CallName) (answer : Answer) → p (lines.Released n task call answer) ≡ false
+  pub dispatch : (n task : ℕ) → p (lines.Dispatch n task) ≡ false
+  pub hook : (n : ℕ) (hook : Hook) → p (lines.Hook n hook) ≡ false
