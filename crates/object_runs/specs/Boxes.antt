@@ -244,6 +244,53 @@ bytes_given_back_run : text_of_lines (lines_of (trace bytes_given_back_script mo
 unfolding bytes_given_back_script bytes_given_back_entries bytes_given_back_lines text_of form_of named made task_call_name sem_flag_call_name mutex_call_name mail_call_name pool_call_name time_call_name context_call_name device_call_name hook_call_name name_of code_of error_text coded error_named attributes_of flag_mode_of open_mode_of suspend_mode_of is_name_byte name_at_most why_text value_text words_of text_of_line text_of_lines fetch give call_before create_sem create_flag end_first delete_sem delete_flag refer_sem refer_flag signal_sem set_flag clear_flag wait_sem wait_flag sem_flag_call serve_sem serve_flag first_served serve_sem_flag sem_trial flag_trial chosen free_task create_task delete_task start_task exit_task terminate_task change_priority rotate_ready get_task refer_task sleep delay wake_up cancel_wakeups release_wait suspend_task resume_task task_call mark_of allowed free_from first_serving serve_box serve_mailboxes serve_buffer serve_buffers post create_box delete_box send_box receive_box refer_box create_buffer delete_buffer send_buffer receive_buffer refer_buffer mail_call create_mutex lock_mutex unlock_mutex refer_mutex delete_mutex mutex_call change_priority_beside task_call_beside chain_has current_of resettle free_last ceiling_allows serve_mutex serve_mutexes create_fixed delete_fixed get_fixed release_fixed refer_fixed create_variable delete_variable get_variable release_variable refer_variable pool_call first_free serve_fixed serve_fixed_pools serve_variable serve_variable_pools set_time get_time get_operating_time create_cyclic start_cyclic stop_cyclic delete_cyclic refer_cyclic create_alarm start_alarm stop_alarm delete_alarm refer_alarm time_call body_of next_due again define_handler disable_dispatch enable_dispatch disable_interrupts enable_interrupts refer_system define_service refer_service enter_service context_call left list_existing list_ready list_queue set_hook hook_call open_device refer_device request request_whole wait_ending close_device suspend_devices device_call expected arrive hand_over hand_first messages emptied read_bytes write_bytes accept picked serve_acceptance serve_acceptances serve_ending serve_endings is_with_driver serve_close serve_closes serve_suspension events_sent free_descriptor free_request first_queued at_driver accepted dropped handed asked devices_start block is_last blocks unit cut may_cut arrived entered returned body_returned family_call answered called follow_release follow_each with_releases dispatched followed insert_once with_requests handler_begun due_begun interrupt_begun served_within settle freed_within fallen due_done tick state_after worked counted step sync_runs sync_run entered_2 runs start trace acted ran turn_of done_turn first_serving_2 serve_object state_start digits
 bytes_given_back_run = refl
 
+-- Messages of one priority are handed out as they were sent, whatever their values.
+equal_messages_as_sent_script : Script
+equal_messages_as_sent_script = record {
+  devices = [];
+  pace = None;
+  irqs = [];
+  boot = record { body = 1; priority = 10 };
+  bodies =
+      record {
+        name = codes "main";
+        kind = kinds.Task;
+        labels = [];
+        stmts =
+            stmts.Call names.TkCreMbx (args.List 8192 ∷ []) ∷
+            stmts.Call names.TkSndMbx (args.Number (pos 1) ∷ args.Number (pos 3) ∷ args.Number (pos 9) ∷ []) ∷
+            stmts.Call names.TkSndMbx (args.Number (pos 1) ∷ args.Number (pos 3) ∷ args.Number (pos 2) ∷ []) ∷
+            stmts.Call names.TkSndMbx (args.Number (pos 1) ∷ args.Number (pos 1) ∷ args.Number (pos 5) ∷ []) ∷
+            stmts.Call names.TkRcvMbx (args.Number (pos 1) ∷ args.Number (pos 0) ∷ []) ∷
+            stmts.Call names.TkRcvMbx (args.Number (pos 1) ∷ args.Number (pos 0) ∷ []) ∷
+            stmts.Call names.TkRcvMbx (args.Number (pos 1) ∷ args.Number (pos 0) ∷ []) ∷
+            [];
+      } ∷
+      [];
+}
+
+equal_messages_as_sent_entries : List Entry
+equal_messages_as_sent_entries = []
+
+equal_messages_as_sent_lines : List ℕ
+equal_messages_as_sent_lines =
+    codes "0 D 1\n" ++
+    codes "1 C 1 tk_cre_mbx 1\n" ++
+    codes "2 C 1 tk_snd_mbx 0\n" ++
+    codes "3 C 1 tk_snd_mbx 0\n" ++
+    codes "4 C 1 tk_snd_mbx 0\n" ++
+    codes "5 C 1 tk_rcv_mbx 0 1 5\n" ++
+    codes "6 C 1 tk_rcv_mbx 0 3 9\n" ++
+    codes "7 C 1 tk_rcv_mbx 0 3 2\n" ++
+    codes "8 C 1 tk_ext_tsk 0\n" ++
+    codes "8 D 0\n" ++
+    codes "8 END idle\n" ++
+    []
+
+equal_messages_as_sent_run : text_of_lines (lines_of (trace equal_messages_as_sent_script modes.Free 100000 equal_messages_as_sent_entries)) ≡ equal_messages_as_sent_lines
+unfolding equal_messages_as_sent_script equal_messages_as_sent_entries equal_messages_as_sent_lines text_of form_of named made task_call_name sem_flag_call_name mutex_call_name mail_call_name pool_call_name time_call_name context_call_name device_call_name hook_call_name name_of code_of error_text coded error_named attributes_of flag_mode_of open_mode_of suspend_mode_of is_name_byte name_at_most why_text value_text words_of text_of_line text_of_lines fetch give call_before create_sem create_flag end_first delete_sem delete_flag refer_sem refer_flag signal_sem set_flag clear_flag wait_sem wait_flag sem_flag_call serve_sem serve_flag first_served serve_sem_flag sem_trial flag_trial chosen free_task create_task delete_task start_task exit_task terminate_task change_priority rotate_ready get_task refer_task sleep delay wake_up cancel_wakeups release_wait suspend_task resume_task task_call mark_of allowed free_from first_serving serve_box serve_mailboxes serve_buffer serve_buffers post create_box delete_box send_box receive_box refer_box create_buffer delete_buffer send_buffer receive_buffer refer_buffer mail_call create_mutex lock_mutex unlock_mutex refer_mutex delete_mutex mutex_call change_priority_beside task_call_beside chain_has current_of resettle free_last ceiling_allows serve_mutex serve_mutexes create_fixed delete_fixed get_fixed release_fixed refer_fixed create_variable delete_variable get_variable release_variable refer_variable pool_call first_free serve_fixed serve_fixed_pools serve_variable serve_variable_pools set_time get_time get_operating_time create_cyclic start_cyclic stop_cyclic delete_cyclic refer_cyclic create_alarm start_alarm stop_alarm delete_alarm refer_alarm time_call body_of next_due again define_handler disable_dispatch enable_dispatch disable_interrupts enable_interrupts refer_system define_service refer_service enter_service context_call left list_existing list_ready list_queue set_hook hook_call open_device refer_device request request_whole wait_ending close_device suspend_devices device_call expected arrive hand_over hand_first messages emptied read_bytes write_bytes accept picked serve_acceptance serve_acceptances serve_ending serve_endings is_with_driver serve_close serve_closes serve_suspension events_sent free_descriptor free_request first_queued at_driver accepted dropped handed asked devices_start block is_last blocks unit cut may_cut arrived entered returned body_returned family_call answered called follow_release follow_each with_releases dispatched followed insert_once with_requests handler_begun due_begun interrupt_begun served_within settle freed_within fallen due_done tick state_after worked counted step sync_runs sync_run entered_2 runs start trace acted ran turn_of done_turn first_serving_2 serve_object state_start digits
+equal_messages_as_sent_run = refl
+
 -- The errors of the calls on mailboxes in their order; a box by priority hands out the least number first and equals
 -- as they came, another box all as they came.
 orders_and_errors_script : Script

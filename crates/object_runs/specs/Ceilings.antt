@@ -193,6 +193,53 @@ bases_and_ceilings_run : text_of_lines (lines_of (trace bases_and_ceilings_scrip
 unfolding bases_and_ceilings_script bases_and_ceilings_entries bases_and_ceilings_lines text_of form_of named made task_call_name sem_flag_call_name mutex_call_name mail_call_name pool_call_name time_call_name context_call_name device_call_name hook_call_name name_of code_of error_text coded error_named attributes_of flag_mode_of open_mode_of suspend_mode_of is_name_byte name_at_most why_text value_text words_of text_of_line text_of_lines fetch give call_before create_sem create_flag end_first delete_sem delete_flag refer_sem refer_flag signal_sem set_flag clear_flag wait_sem wait_flag sem_flag_call serve_sem serve_flag first_served serve_sem_flag sem_trial flag_trial chosen free_task create_task delete_task start_task exit_task terminate_task change_priority rotate_ready get_task refer_task sleep delay wake_up cancel_wakeups release_wait suspend_task resume_task task_call mark_of allowed free_from first_serving serve_box serve_mailboxes serve_buffer serve_buffers post create_box delete_box send_box receive_box refer_box create_buffer delete_buffer send_buffer receive_buffer refer_buffer mail_call create_mutex lock_mutex unlock_mutex refer_mutex delete_mutex mutex_call change_priority_beside task_call_beside chain_has current_of resettle free_last ceiling_allows serve_mutex serve_mutexes create_fixed delete_fixed get_fixed release_fixed refer_fixed create_variable delete_variable get_variable release_variable refer_variable pool_call first_free serve_fixed serve_fixed_pools serve_variable serve_variable_pools set_time get_time get_operating_time create_cyclic start_cyclic stop_cyclic delete_cyclic refer_cyclic create_alarm start_alarm stop_alarm delete_alarm refer_alarm time_call body_of next_due again define_handler disable_dispatch enable_dispatch disable_interrupts enable_interrupts refer_system define_service refer_service enter_service context_call left list_existing list_ready list_queue set_hook hook_call open_device refer_device request request_whole wait_ending close_device suspend_devices device_call expected arrive hand_over hand_first messages emptied read_bytes write_bytes accept picked serve_acceptance serve_acceptances serve_ending serve_endings is_with_driver serve_close serve_closes serve_suspension events_sent free_descriptor free_request first_queued at_driver accepted dropped handed asked devices_start block is_last blocks unit cut may_cut arrived entered returned body_returned family_call answered called follow_release follow_each with_releases dispatched followed insert_once with_requests handler_begun due_begun interrupt_begun served_within settle freed_within fallen due_done tick state_after worked counted step sync_runs sync_run entered_2 runs start trace acted ran turn_of done_turn first_serving_2 serve_object state_start digits
 bases_and_ceilings_run = refl
 
+-- Of two ceilings that are held the higher one counts, also where it was locked first.
+lower_ceiling_locked_last_script : Script
+lower_ceiling_locked_last_script = record {
+  devices = [];
+  pace = None;
+  irqs = [];
+  boot = record { body = 1; priority = 50 };
+  bodies =
+      record {
+        name = codes "main";
+        kind = kinds.Task;
+        labels = [];
+        stmts =
+            stmts.Call names.TkCreMtx (args.List 32768 ∷ args.Number (pos 10) ∷ []) ∷
+            stmts.Call names.TkCreMtx (args.List 32768 ∷ args.Number (pos 20) ∷ []) ∷
+            stmts.Call names.TkLocMtx (args.Number (pos 1) ∷ args.Number (negsuc 0) ∷ []) ∷
+            stmts.Call names.TkLocMtx (args.Number (pos 2) ∷ args.Number (negsuc 0) ∷ []) ∷
+            stmts.Call names.TkRefTsk (args.Number (pos 0) ∷ []) ∷
+            stmts.Call names.TkUnlMtx (args.Number (pos 2) ∷ []) ∷
+            stmts.Call names.TkRefTsk (args.Number (pos 0) ∷ []) ∷
+            [];
+      } ∷
+      [];
+}
+
+lower_ceiling_locked_last_entries : List Entry
+lower_ceiling_locked_last_entries = []
+
+lower_ceiling_locked_last_lines : List ℕ
+lower_ceiling_locked_last_lines =
+    codes "0 D 1\n" ++
+    codes "1 C 1 tk_cre_mtx 1\n" ++
+    codes "2 C 1 tk_cre_mtx 2\n" ++
+    codes "3 C 1 tk_loc_mtx 0\n" ++
+    codes "4 C 1 tk_loc_mtx 0\n" ++
+    codes "5 C 1 tk_ref_tsk 0 1 10 50 0 0\n" ++
+    codes "6 C 1 tk_unl_mtx 0\n" ++
+    codes "7 C 1 tk_ref_tsk 0 1 10 50 0 0\n" ++
+    codes "8 C 1 tk_ext_tsk 0\n" ++
+    codes "8 D 0\n" ++
+    codes "8 END idle\n" ++
+    []
+
+lower_ceiling_locked_last_run : text_of_lines (lines_of (trace lower_ceiling_locked_last_script modes.Free 100000 lower_ceiling_locked_last_entries)) ≡ lower_ceiling_locked_last_lines
+unfolding lower_ceiling_locked_last_script lower_ceiling_locked_last_entries lower_ceiling_locked_last_lines text_of form_of named made task_call_name sem_flag_call_name mutex_call_name mail_call_name pool_call_name time_call_name context_call_name device_call_name hook_call_name name_of code_of error_text coded error_named attributes_of flag_mode_of open_mode_of suspend_mode_of is_name_byte name_at_most why_text value_text words_of text_of_line text_of_lines fetch give call_before create_sem create_flag end_first delete_sem delete_flag refer_sem refer_flag signal_sem set_flag clear_flag wait_sem wait_flag sem_flag_call serve_sem serve_flag first_served serve_sem_flag sem_trial flag_trial chosen free_task create_task delete_task start_task exit_task terminate_task change_priority rotate_ready get_task refer_task sleep delay wake_up cancel_wakeups release_wait suspend_task resume_task task_call mark_of allowed free_from first_serving serve_box serve_mailboxes serve_buffer serve_buffers post create_box delete_box send_box receive_box refer_box create_buffer delete_buffer send_buffer receive_buffer refer_buffer mail_call create_mutex lock_mutex unlock_mutex refer_mutex delete_mutex mutex_call change_priority_beside task_call_beside chain_has current_of resettle free_last ceiling_allows serve_mutex serve_mutexes create_fixed delete_fixed get_fixed release_fixed refer_fixed create_variable delete_variable get_variable release_variable refer_variable pool_call first_free serve_fixed serve_fixed_pools serve_variable serve_variable_pools set_time get_time get_operating_time create_cyclic start_cyclic stop_cyclic delete_cyclic refer_cyclic create_alarm start_alarm stop_alarm delete_alarm refer_alarm time_call body_of next_due again define_handler disable_dispatch enable_dispatch disable_interrupts enable_interrupts refer_system define_service refer_service enter_service context_call left list_existing list_ready list_queue set_hook hook_call open_device refer_device request request_whole wait_ending close_device suspend_devices device_call expected arrive hand_over hand_first messages emptied read_bytes write_bytes accept picked serve_acceptance serve_acceptances serve_ending serve_endings is_with_driver serve_close serve_closes serve_suspension events_sent free_descriptor free_request first_queued at_driver accepted dropped handed asked devices_start block is_last blocks unit cut may_cut arrived entered returned body_returned family_call answered called follow_release follow_each with_releases dispatched followed insert_once with_requests handler_begun due_begun interrupt_begun served_within settle freed_within fallen due_done tick state_after worked counted step sync_runs sync_run entered_2 runs start trace acted ran turn_of done_turn first_serving_2 serve_object state_start digits
+lower_ceiling_locked_last_run = refl
+
 -- A ceiling raises its owner at once; where the priority stays, also under another base, the owner keeps its place
 -- among equals, and where an unlock lowers it, to the other ceiling that is held or to the base, it stands behind
 -- them.

@@ -322,6 +322,167 @@ ended_owners_run : text_of_lines (lines_of (trace ended_owners_script modes.Free
 unfolding ended_owners_script ended_owners_entries ended_owners_lines text_of form_of named made task_call_name sem_flag_call_name mutex_call_name mail_call_name pool_call_name time_call_name context_call_name device_call_name hook_call_name name_of code_of error_text coded error_named attributes_of flag_mode_of open_mode_of suspend_mode_of is_name_byte name_at_most why_text value_text words_of text_of_line text_of_lines fetch give call_before create_sem create_flag end_first delete_sem delete_flag refer_sem refer_flag signal_sem set_flag clear_flag wait_sem wait_flag sem_flag_call serve_sem serve_flag first_served serve_sem_flag sem_trial flag_trial chosen free_task create_task delete_task start_task exit_task terminate_task change_priority rotate_ready get_task refer_task sleep delay wake_up cancel_wakeups release_wait suspend_task resume_task task_call mark_of allowed free_from first_serving serve_box serve_mailboxes serve_buffer serve_buffers post create_box delete_box send_box receive_box refer_box create_buffer delete_buffer send_buffer receive_buffer refer_buffer mail_call create_mutex lock_mutex unlock_mutex refer_mutex delete_mutex mutex_call change_priority_beside task_call_beside chain_has current_of resettle free_last ceiling_allows serve_mutex serve_mutexes create_fixed delete_fixed get_fixed release_fixed refer_fixed create_variable delete_variable get_variable release_variable refer_variable pool_call first_free serve_fixed serve_fixed_pools serve_variable serve_variable_pools set_time get_time get_operating_time create_cyclic start_cyclic stop_cyclic delete_cyclic refer_cyclic create_alarm start_alarm stop_alarm delete_alarm refer_alarm time_call body_of next_due again define_handler disable_dispatch enable_dispatch disable_interrupts enable_interrupts refer_system define_service refer_service enter_service context_call left list_existing list_ready list_queue set_hook hook_call open_device refer_device request request_whole wait_ending close_device suspend_devices device_call expected arrive hand_over hand_first messages emptied read_bytes write_bytes accept picked serve_acceptance serve_acceptances serve_ending serve_endings is_with_driver serve_close serve_closes serve_suspension events_sent free_descriptor free_request first_queued at_driver accepted dropped handed asked devices_start block is_last blocks unit cut may_cut arrived entered returned body_returned family_call answered called follow_release follow_each with_releases dispatched followed insert_once with_requests handler_begun due_begun interrupt_begun served_within settle freed_within fallen due_done tick state_after worked counted step sync_runs sync_run entered_2 runs start trace acted ran turn_of done_turn first_serving_2 serve_object state_start digits
 ended_owners_run = refl
 
+-- A task is ended that owns a mutex and is the first waiter of a pool, then of a message buffer. Its mutex is freed before anything
+-- settles, so the waiter of the mutex is served before those of the pool and the buffer, which could be served without the freeing.
+freed_before_all_settles_script : Script
+freed_before_all_settles_script = record {
+  devices = [];
+  pace = None;
+  irqs = [];
+  boot = record { body = 1; priority = 20 };
+  bodies =
+      record {
+        name = codes "main";
+        kind = kinds.Task;
+        labels = [];
+        stmts =
+            stmts.Call names.TkCreMtx (args.List 16384 ∷ args.Number (pos 0) ∷ []) ∷
+            stmts.Call names.TkCreMpl (args.List 64 ∷ args.Number (pos 32) ∷ []) ∷
+            stmts.Call names.TkCreMbf (args.List 0 ∷ args.Number (pos 16) ∷ args.Number (pos 8) ∷ []) ∷
+            stmts.Call names.TkGetMpl (args.Number (pos 1) ∷ args.Number (pos 16) ∷ args.Number (pos 0) ∷ []) ∷
+            stmts.Call names.TkSndMbf (args.Number (pos 1) ∷ args.Number (pos 0) ∷ args.Number (pos 4) ∷ args.Number (pos 0) ∷ []) ∷
+            stmts.Call names.TkCreTsk (args.List 0 ∷ args.Body 2 ∷ args.Number (pos 10) ∷ args.Number (pos 512) ∷ []) ∷
+            stmts.Call names.TkCreTsk (args.List 0 ∷ args.Body 3 ∷ args.Number (pos 12) ∷ args.Number (pos 512) ∷ []) ∷
+            stmts.Call names.TkCreTsk (args.List 0 ∷ args.Body 4 ∷ args.Number (pos 8) ∷ args.Number (pos 512) ∷ []) ∷
+            stmts.Call names.TkCreTsk (args.List 0 ∷ args.Body 5 ∷ args.Number (pos 11) ∷ args.Number (pos 512) ∷ []) ∷
+            stmts.Call names.TkCreTsk (args.List 0 ∷ args.Body 6 ∷ args.Number (pos 9) ∷ args.Number (pos 512) ∷ []) ∷
+            stmts.Call names.TkStaTsk (args.Number (pos 2) ∷ args.Number (pos 0) ∷ []) ∷
+            stmts.Call names.TkStaTsk (args.Number (pos 3) ∷ args.Number (pos 0) ∷ []) ∷
+            stmts.Call names.TkStaTsk (args.Number (pos 4) ∷ args.Number (pos 0) ∷ []) ∷
+            stmts.Call names.TkTerTsk (args.Number (pos 2) ∷ []) ∷
+            stmts.Call names.TkRefMpl (args.Number (pos 1) ∷ []) ∷
+            stmts.Call names.TkStaTsk (args.Number (pos 5) ∷ args.Number (pos 0) ∷ []) ∷
+            stmts.Call names.TkStaTsk (args.Number (pos 3) ∷ args.Number (pos 0) ∷ []) ∷
+            stmts.Call names.TkStaTsk (args.Number (pos 6) ∷ args.Number (pos 0) ∷ []) ∷
+            stmts.Call names.TkTerTsk (args.Number (pos 5) ∷ []) ∷
+            stmts.Call names.TkRefMbf (args.Number (pos 1) ∷ []) ∷
+            stmts.Call names.TkStaTsk (args.Number (pos 5) ∷ args.Number (pos 0) ∷ []) ∷
+            stmts.Call names.TkTerTsk (args.Number (pos 5) ∷ []) ∷
+            [];
+      } ∷
+      record {
+        name = codes "own";
+        kind = kinds.Task;
+        labels = [];
+        stmts =
+            stmts.Call names.TkLocMtx (args.Number (pos 1) ∷ args.Number (negsuc 0) ∷ []) ∷
+            stmts.Call names.TkGetMpl (args.Number (pos 1) ∷ args.Number (pos 24) ∷ args.Number (negsuc 0) ∷ []) ∷
+            [];
+      } ∷
+      record {
+        name = codes "two";
+        kind = kinds.Task;
+        labels = [];
+        stmts =
+            stmts.Call names.TkLocMtx (args.Number (pos 1) ∷ args.Number (negsuc 0) ∷ []) ∷
+            stmts.Call names.TkUnlMtx (args.Number (pos 1) ∷ []) ∷
+            [];
+      } ∷
+      record {
+        name = codes "small";
+        kind = kinds.Task;
+        labels = [];
+        stmts =
+            stmts.Call names.TkGetMpl (args.Number (pos 1) ∷ args.Number (pos 8) ∷ args.Number (negsuc 0) ∷ []) ∷
+            [];
+      } ∷
+      record {
+        name = codes "ownb";
+        kind = kinds.Task;
+        labels = [];
+        stmts =
+            stmts.Call names.TkLocMtx (args.Number (pos 1) ∷ args.Number (negsuc 0) ∷ []) ∷
+            stmts.Call names.TkSndMbf (args.Number (pos 1) ∷ args.Number (pos 0) ∷ args.Number (pos 8) ∷ args.Number (negsuc 0) ∷ []) ∷
+            [];
+      } ∷
+      record {
+        name = codes "smallb";
+        kind = kinds.Task;
+        labels = [];
+        stmts =
+            stmts.Call names.TkSndMbf (args.Number (pos 1) ∷ args.Number (pos 0) ∷ args.Number (pos 4) ∷ args.Number (negsuc 0) ∷ []) ∷
+            [];
+      } ∷
+      [];
+}
+
+freed_before_all_settles_entries : List Entry
+freed_before_all_settles_entries = []
+
+freed_before_all_settles_lines : List ℕ
+freed_before_all_settles_lines =
+    codes "0 D 1\n" ++
+    codes "1 C 1 tk_cre_mtx 1\n" ++
+    codes "2 C 1 tk_cre_mpl 1\n" ++
+    codes "3 C 1 tk_cre_mbf 1\n" ++
+    codes "4 C 1 tk_get_mpl 0\n" ++
+    codes "5 C 1 tk_snd_mbf 0\n" ++
+    codes "6 C 1 tk_cre_tsk 2\n" ++
+    codes "7 C 1 tk_cre_tsk 3\n" ++
+    codes "8 C 1 tk_cre_tsk 4\n" ++
+    codes "9 C 1 tk_cre_tsk 5\n" ++
+    codes "10 C 1 tk_cre_tsk 6\n" ++
+    codes "11 C 1 tk_sta_tsk 0\n" ++
+    codes "11 D 2\n" ++
+    codes "12 C 2 tk_loc_mtx 0\n" ++
+    codes "13 B 2 tk_get_mpl\n" ++
+    codes "13 D 1\n" ++
+    codes "14 C 1 tk_sta_tsk 0\n" ++
+    codes "14 D 3\n" ++
+    codes "15 B 3 tk_loc_mtx\n" ++
+    codes "15 D 1\n" ++
+    codes "16 C 1 tk_sta_tsk 0\n" ++
+    codes "16 D 4\n" ++
+    codes "17 B 4 tk_get_mpl\n" ++
+    codes "17 D 1\n" ++
+    codes "18 C 1 tk_ter_tsk 0\n" ++
+    codes "18 W 3 tk_loc_mtx 0\n" ++
+    codes "18 W 4 tk_get_mpl 16\n" ++
+    codes "18 D 4\n" ++
+    codes "19 C 4 tk_ext_tsk 0\n" ++
+    codes "19 D 3\n" ++
+    codes "20 C 3 tk_unl_mtx 0\n" ++
+    codes "21 C 3 tk_ext_tsk 0\n" ++
+    codes "21 D 1\n" ++
+    codes "22 C 1 tk_ref_mpl 0 8 8 0\n" ++
+    codes "23 C 1 tk_sta_tsk 0\n" ++
+    codes "23 D 5\n" ++
+    codes "24 C 5 tk_loc_mtx 0\n" ++
+    codes "25 B 5 tk_snd_mbf\n" ++
+    codes "25 D 1\n" ++
+    codes "26 C 1 tk_sta_tsk 0\n" ++
+    codes "26 D 3\n" ++
+    codes "27 B 3 tk_loc_mtx\n" ++
+    codes "27 D 1\n" ++
+    codes "28 C 1 tk_sta_tsk 0\n" ++
+    codes "28 D 6\n" ++
+    codes "29 B 6 tk_snd_mbf\n" ++
+    codes "29 D 1\n" ++
+    codes "30 C 1 tk_ter_tsk 0\n" ++
+    codes "30 W 3 tk_loc_mtx 0\n" ++
+    codes "30 W 6 tk_snd_mbf 0\n" ++
+    codes "30 D 6\n" ++
+    codes "31 C 6 tk_ext_tsk 0\n" ++
+    codes "31 D 3\n" ++
+    codes "32 C 3 tk_unl_mtx 0\n" ++
+    codes "33 C 3 tk_ext_tsk 0\n" ++
+    codes "33 D 1\n" ++
+    codes "34 C 1 tk_ref_mbf 0 0 0 0 4\n" ++
+    codes "35 C 1 tk_sta_tsk 0\n" ++
+    codes "35 D 5\n" ++
+    codes "36 C 5 tk_loc_mtx 0\n" ++
+    codes "37 B 5 tk_snd_mbf\n" ++
+    codes "37 D 1\n" ++
+    codes "38 C 1 tk_ter_tsk 0\n" ++
+    codes "39 C 1 tk_ext_tsk 0\n" ++
+    codes "39 D 0\n" ++
+    codes "39 END idle\n" ++
+    []
+
+freed_before_all_settles_run : text_of_lines (lines_of (trace freed_before_all_settles_script modes.Free 100000 freed_before_all_settles_entries)) ≡ freed_before_all_settles_lines
+unfolding freed_before_all_settles_script freed_before_all_settles_entries freed_before_all_settles_lines text_of form_of named made task_call_name sem_flag_call_name mutex_call_name mail_call_name pool_call_name time_call_name context_call_name device_call_name hook_call_name name_of code_of error_text coded error_named attributes_of flag_mode_of open_mode_of suspend_mode_of is_name_byte name_at_most why_text value_text words_of text_of_line text_of_lines fetch give call_before create_sem create_flag end_first delete_sem delete_flag refer_sem refer_flag signal_sem set_flag clear_flag wait_sem wait_flag sem_flag_call serve_sem serve_flag first_served serve_sem_flag sem_trial flag_trial chosen free_task create_task delete_task start_task exit_task terminate_task change_priority rotate_ready get_task refer_task sleep delay wake_up cancel_wakeups release_wait suspend_task resume_task task_call mark_of allowed free_from first_serving serve_box serve_mailboxes serve_buffer serve_buffers post create_box delete_box send_box receive_box refer_box create_buffer delete_buffer send_buffer receive_buffer refer_buffer mail_call create_mutex lock_mutex unlock_mutex refer_mutex delete_mutex mutex_call change_priority_beside task_call_beside chain_has current_of resettle free_last ceiling_allows serve_mutex serve_mutexes create_fixed delete_fixed get_fixed release_fixed refer_fixed create_variable delete_variable get_variable release_variable refer_variable pool_call first_free serve_fixed serve_fixed_pools serve_variable serve_variable_pools set_time get_time get_operating_time create_cyclic start_cyclic stop_cyclic delete_cyclic refer_cyclic create_alarm start_alarm stop_alarm delete_alarm refer_alarm time_call body_of next_due again define_handler disable_dispatch enable_dispatch disable_interrupts enable_interrupts refer_system define_service refer_service enter_service context_call left list_existing list_ready list_queue set_hook hook_call open_device refer_device request request_whole wait_ending close_device suspend_devices device_call expected arrive hand_over hand_first messages emptied read_bytes write_bytes accept picked serve_acceptance serve_acceptances serve_ending serve_endings is_with_driver serve_close serve_closes serve_suspension events_sent free_descriptor free_request first_queued at_driver accepted dropped handed asked devices_start block is_last blocks unit cut may_cut arrived entered returned body_returned family_call answered called follow_release follow_each with_releases dispatched followed insert_once with_requests handler_begun due_begun interrupt_begun served_within settle freed_within fallen due_done tick state_after worked counted step sync_runs sync_run entered_2 runs start trace acted ran turn_of done_turn first_serving_2 serve_object state_start digits
+freed_before_all_settles_run = refl
+
 -- An owner's priority follows its waiter's; release, time-out and termination of the waiter lower it to the ceiling
 -- that it holds, behind its equals, while a lock that doesn't wait leaves its place.
 lowered_owner_script : Script
