@@ -6,3 +6,4 @@ pub mod Counted
 pub mod Drivings
 pub mod SumTexts
 pub mod LineCounts
+pub mod OneDevice
