@@ -7,3 +7,4 @@ pub mod Drivings
 pub mod SumTexts
 pub mod LineCounts
 pub mod OneDevice
+pub mod Turns
