@@ -8,3 +8,4 @@ pub mod SumTexts
 pub mod LineCounts
 pub mod OneDevice
 pub mod Turns
+pub mod Summed

@@ -9,11 +9,13 @@ use Rattle.tk_types.specs.declared.line.Line.TheVariants as lines
 use Rattle.tk_types.specs.declared.run.End.{End}
 use Rattle.tk_types.specs.declared.run.End.TheVariants as ends
 use Rattle.tk_types.specs.declared.run.Mode.TheVariants as modes
+use Rattle.tk_types.specs.declared.script.Kind.{Kind}
 use Rattle.tk_types.specs.declared.script.Script.{Script}
 use Rattle.device_model.specs.declared.messages.Ending.{Ending}
 use Rattle.device_model.specs.declared.messages.Message.{Message}
 use Rattle.device_model.specs.declared.messages.Message.TheVariants as message
 use Rattle.device_model.specs.declared.messages.Request.{Request}
+use Rattle.device_model.specs.Units.Stores.{Store, store_start}
 use Rattle.device_model.specs.Devices.Handing.{messages}
 use Rattle.driver_model.specs.Cores.{Core, core_start}
 use Rattle.machine_model.specs.States.State.{State, taken}
@@ -284,3 +286,18 @@ start_between number script m run same is left driver =
     between_by (generated number) most_steps run (start (generated number)).state run.driver
     (left ∙ (ap (λ (one : Machine). let it : Machine = record one { lines = [] } in it) is ∙ ap (λ (s : Script). going s most_steps (start s).state) same)) refl
     (start_served number run.driver driver)
+
+pub begun_core : (kind : Kind) (store : Store) → kind ≡ the_device.kind → store ≡ store_start the_device.kind →
+    let core : Core = record (core_start 1 kind) { store = store } in
+    core ≡ core_start 1 the_device.kind
+begun_core kind store is holds =
+    ap (λ (s : Store). let core : Core = record (core_start 1 kind) { store = s } in core) holds
+    ∙ ap (λ (k : Kind). let core : Core = record (core_start 1 k) { store = store_start the_device.kind } in core) is
+
+-- ---- the message
+
+-- the one message that was there is the one that was taken out
+pub popped_is : (left : List Message) (d : ℕ) (popped request : Request) → message.Serve 1 request ∷ [] ≡ left ++ message.Serve d popped ∷ [] → popped ≡ request
+popped_is [] d popped request is = cc is
+popped_is (first ∷ []) d popped request is = absurd (cc is)
+popped_is (first ∷ second ∷ left) d popped request is = absurd (cc is)

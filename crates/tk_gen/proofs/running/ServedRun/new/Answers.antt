@@ -1,9 +1,9 @@
-use Rattle.std.proofs.Common.{sym, subst, ap, ◌∙◌}
+use Rattle.std.proofs.Common.{sym, subst, ◌∙◌}
 use Rattle.tk_types.specs.declared.script.Script.{Script}
 use Rattle.kernel_model.specs.Bodies.Statements.{IsRunnable}
 use Rattle.dev_layer.specs.Tables.{AreDevices}
 use Rattle.tk_gen.proofs.Scripts.{runnable, valid_devices}
-use Rattle.tk_gen.proofs.Turns.{start_between, start_fits}
+use Rattle.tk_gen.proofs.Turns.{begun_core, start_between, start_fits}
 use Rattle.tk_gen.proofs.running.ServedRun.new.Goals as goal
 
 pub new-requires-2-clause-runnable : goal.new-requires-2-clause-runnable
@@ -18,4 +18,4 @@ count_lines-requires c = start_fits c.in_ok-script.script c.new-4.result c.in_ok
 pub returns-clause-between : goal.returns-clause-between
 returns-clause-between c =
     start_between c.args.number c.in_ok-script.script c.in_ok-new.field-0 c.count_lines.new.self c.in_ok-script.ensures c.in_ok-new.ensures c.count_lines.ensures.machine
-    (c.count_lines.ensures.driver ∙ ?)
+    (c.count_lines.ensures.driver ∙ (c.in_ok-new-2.ensures ∙ begun_core c.in_ok-unit.unit.kind c.in_ok-unit.unit.store c.in_ok-unit.ensures.kind c.in_ok-unit.ensures.store))
