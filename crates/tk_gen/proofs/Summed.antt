@@ -1,5 +1,5 @@
 -- The run of a generated script, turn by turn, and what is told of it.
-use Rattle.std.proofs.Common.{◌≡◌, ℕ, suc, ◌+◌, ◌-◌, ◌*◌, ◌≤◌, ◌<◌, ◌^◌, List, [], ◌++◌, None, refl, ap, sym, subst, ◌∙◌, append-nil, append_assoc, arith}
+use Rattle.std.proofs.Common.{◌≡◌, ℕ, suc, ◌+◌, ◌-◌, ◌*◌, ◌≤◌, ◌<◌, ◌^◌, List, [], ◌++◌, None, refl, ap, sym, subst, ◌∙◌, append-nil, append_assoc, arith, Option, Some}
 use Rattle.std.specs.Prelude.{count_by}
 use Rattle.tk_types.specs.declared.line.Line.{Line}
 use Rattle.tk_types.specs.declared.run.End.{End}
@@ -14,7 +14,7 @@ use Rattle.tk_gen.specs.declared.counts.Counts.{Counts}
 use Rattle.tk_gen.specs.declared.running.ServedRun.{ServedRun}
 use Rattle.tk_gen.specs.declared.summary.Summary.{Summary}
 use Rattle.tk_gen.specs.Counts.{HasRoom, counted_on, is_call, is_ending, is_tick, is_wait, nothing_counted}
-use Rattle.tk_gen.specs.Serving.{GoesOn, IsBetweenTurns, IsOver}
+use Rattle.tk_gen.specs.Serving.{GoesOn, IsBetweenTurns, IsOver, TurnGives}
 use Rattle.tk_gen.specs.Summaries.{SumsUp, most_steps}
 use Rattle.tk_gen.proofs.Counted.{counted_both}
 use Rattle.tk_gen.proofs.Turns.{start_counted}
@@ -133,3 +133,15 @@ budget_sums number turn run under =
     sums_by number run ends.Budget under.front (sync_trace (generated number) most_steps) under.counts
     (under.trace ∙ (ap (after under.front) (none_left (generated number) most_steps run.machine.state)
     ∙ ap (λ (all : List Line). let t : Trace = record { lines = all; steps = run.machine.state.steps; last = last_of ends.Budget } in t) (append-nil under.front)))
+
+-- ---- what a turn gave
+
+pub turn_goes : (number : ℕ) (old new : ServedRun) (over : Option End) → IsBetweenTurns (generated number) most_steps old → ((end : End) → over ≡ Some end → ⊥) →
+    TurnGives old.machine.script old.machine.budget old new over → GoesOn (generated number) most_steps old new
+turn_goes number old new None between not gives = of_these (λ (script : Script) (budget : ℕ). GoesOn script budget old new) number old between gives
+turn_goes number old new (Some end) between not gives = absurd (not end refl)
+
+pub turn_ends : (number : ℕ) (old new : ServedRun) (over : Option End) (end : End) → IsBetweenTurns (generated number) most_steps old → over ≡ Some end →
+    TurnGives old.machine.script old.machine.budget old new over → IsOver (generated number) most_steps old new end
+turn_ends number old new over end between is gives =
+    of_these (λ (script : Script) (budget : ℕ). IsOver script budget old new end) number old between (subst (TurnGives old.machine.script old.machine.budget old new) is gives)

@@ -297,7 +297,14 @@ begun_core kind store is holds =
 -- ---- the message
 
 -- the one message that was there is the one that was taken out
-pub popped_is : (left : List Message) (d : ℕ) (popped request : Request) → message.Serve 1 request ∷ [] ≡ left ++ message.Serve d popped ∷ [] → popped ≡ request
+popped_is : (left : List Message) (d : ℕ) (popped request : Request) → message.Serve 1 request ∷ [] ≡ left ++ message.Serve d popped ∷ [] → popped ≡ request
 popped_is [] d popped request is = cc is
 popped_is (first ∷ []) d popped request is = absurd (cc is)
 popped_is (first ∷ second ∷ left) d popped request is = absurd (cc is)
+
+-- so the request that is with the driver is that of the message
+pub popped_served : (script : Script) (budget : ℕ) (run : ServedRun) (left : List Message) (d : ℕ) (popped : Request) → HasRequest script budget run →
+    run.machine.messages ≡ left ++ message.Serve d popped ∷ [] → IsServedBy script run.machine.state run.driver (Some (record { request = popped; asked = false }))
+popped_served script budget run left d popped has is =
+    let same : popped ≡ has.request = popped_is left d popped has.request (sym (ap (λ (m : Machine). m.messages) has.machine_is) ∙ is) in
+    subst (λ (request : Request). IsServedBy script run.machine.state run.driver (Some (record { request = request; asked = false }))) (sym same) has.served
