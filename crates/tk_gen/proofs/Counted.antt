@@ -9,7 +9,7 @@ use Rattle.tk_gen.specs.Counts.{counted_on, is_call, is_ending, is_tick, is_wait
 pub count_both : {A : Type 0} → (p : A → Bool) (xs ys : List A) → count_by p (xs ++ ys) ≡ count_by p xs + count_by p ys
 count_both p xs ys = sum_by-append (λ x. cond (p x) 1 0) xs ys
 
-counts_are : (a b c d a' b' c' d' : ℕ) → a ≡ a' → b ≡ b' → c ≡ c' → d ≡ d' →
+pub counts_are : (a b c d a' b' c' d' : ℕ) → a ≡ a' → b ≡ b' → c ≡ c' → d ≡ d' →
     let one : Counts = record { calls = a; waits = b; ticks = c; endings = d } in
     let other : Counts = record { calls = a'; waits = b'; ticks = c'; endings = d' } in
     one ≡ other

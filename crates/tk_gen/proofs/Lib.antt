@@ -6,3 +6,6 @@ pub mod Counted
 pub mod Drivings
 pub mod SumTexts
 pub mod LineCounts
+pub mod OneDevice
+pub mod Turns
+pub mod Summed
