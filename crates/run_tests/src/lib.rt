@@ -10,6 +10,8 @@ mod failing_runs;
 #[cfg(test)]
 mod flooding_runs;
 #[cfg(test)]
+mod generated_runs;
+#[cfg(test)]
 mod hook_runs;
 #[cfg(test)]
 mod mail_runs;

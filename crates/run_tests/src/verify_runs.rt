@@ -246,7 +246,12 @@ fn traces_are_verified(rt: HostRuntime) -> Result<(), Fail> {
 /// Words that are nearly those of `verify` are no command.
 #[test]
 fn words_of_verify_are_whole(rt: HostRuntime) -> Result<(), Fail> {
-    for words in ["verify --budget", "verify --budget 0", "verify --free", "verify all"] {
+    for words in [
+        "verify --budget",
+        "verify --budget 0",
+        "verify --free",
+        "verify all",
+    ] {
         let (status, output) = outcome(&rt, rt.alloc(), words, SAME.script)?;
         assert_eq!(rt; output.as_slice(), b"usage\n".as_slice());
         assert_eq!(rt; status, Status::Usage);

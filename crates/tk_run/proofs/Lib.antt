@@ -6,6 +6,7 @@ pub mod FedTurns
 pub mod FleetAnswers
 pub mod FleetLoops
 pub mod FleetTurns
+pub mod Generated
 pub mod Handing
 pub mod Judged
 pub mod Headlines

@@ -5,7 +5,7 @@ use Rattle.tk_types.specs.declared.run.Mode.TheVariants.{Free, Sync}
 use Rattle.tk_model.specs.Decimals.{natural_at}
 use Rattle.tk_text.specs.Sessions.{script_limit, session_limit}
 use Rattle.tk_run.specs.declared.command.Command.{Command}
-use Rattle.tk_run.specs.declared.command.Command.TheVariants.{Run, Replay, Verify, Check}
+use Rattle.tk_run.specs.declared.command.Command.TheVariants.{Run, Replay, Verify, Check, Generate}
 use Rattle.tk_run.specs.declared.command.Options.{Options}
 
 -- the most steps that a run may be given
@@ -55,6 +55,24 @@ replay_with options = Replay options.mode options.budget
 abbrev pub verify_with : Options → Command
 verify_with options = Verify options.mode options.budget
 
+-- the greatest number of a script that is made
+abbrev pub most_number : ℕ
+most_number = 65535
+
+abbrev pub number_within : Option ℕ → Option ℕ
+number_within None = None
+number_within (Some number) = if nat_le number most_number then Some number else None
+
+-- the number of a script that a word spells
+unfoldable pub script_number : List ℕ → Option ℕ
+script_number word = number_within (natural_at word)
+
+-- the making of the script whose number the words behind `gen` are
+unfoldable pub generate_of : List (List ℕ) → Option Command
+generate_of [] = None
+generate_of (word ∷ []) = option_map Generate (script_number word)
+generate_of (word ∷ other ∷ words) = None
+
 -- a command that takes no word more
 abbrev pub alone : Command → List (List ℕ) → Option Command
 alone command [] = Some command
@@ -67,6 +85,7 @@ command_of (name ∷ words) =
     if bytes_eq name (codes "run") then option_map run_with (options_of words)
     else if bytes_eq name (codes "replay") then option_map replay_with (options_of words)
     else if bytes_eq name (codes "verify") then option_map verify_with (options_of words)
+    else if bytes_eq name (codes "gen") then generate_of words
     else if bytes_eq name (codes "check") then alone Check words
     else None
 
@@ -76,11 +95,18 @@ IsCommand (Run mode budget) = IsBudget budget
 IsCommand (Replay mode budget) = IsBudget budget
 IsCommand (Verify mode budget) = IsBudget budget
 IsCommand Check = Unit {0}
+IsCommand (Generate number) = number ≤ most_number
 
 abbrev pub IsOptions : Options → Type 0
 IsOptions options = IsBudget options.budget
 
--- the most bytes of a command's input: those of a session, or of a script
+-- the words are no command, or one that reads nothing
+abbrev pub IsUnread : Option Command → Type 0
+IsUnread None = Unit {0}
+IsUnread (Some (Generate number)) = Unit {0}
+IsUnread _ = ⊥
+
+-- the most bytes of a command's input: those of a session, or of a script; to make a script nothing is read
 abbrev pub input_limit : Option Command → ℕ
 input_limit (Some (Replay mode budget)) = session_limit
 input_limit (Some (Verify mode budget)) = session_limit

@@ -11,13 +11,17 @@ use Rattle.tk_types.specs.declared.line.LastLine.TheVariants as lasts
 use Rattle.tk_types.specs.declared.why.Why.{Why}
 use Rattle.tk_types.specs.Reasons.{why_text}
 use Rattle.tk_model.specs.ScriptText.{printed}
+use Rattle.machine_model.specs.Runs.Generator.{generated, summary}
+use Rattle.machine_model.specs.Runs.SyncTrace.{sync_trace}
 use Rattle.machine_model.specs.Runs.Trace.{Trace, lines_of, trace}
 use Rattle.tk_model.specs.LineText.{text_of_lines}
 use Rattle.tk_run.specs.declared.command.Command.{Command}
 use Rattle.tk_run.specs.declared.command.Command.TheVariants.{Run, Replay, Check}
 use Rattle.tk_run.specs.declared.status.Status.{Status}
 use Rattle.tk_run.specs.declared.status.Status.TheVariants as statuses
-use Rattle.tk_run.specs.Commands.{command_of}
+use Rattle.tk_run.specs.Commands.{command_of, default_budget}
+use Rattle.tk_gen.specs.Summaries.{summed_text}
+use Rattle.tk_gen.specs.declared.summary.Summary.{Summary}
 use Rattle.tk_run.specs.Readings.{reading_of, session_of}
 use Rattle.tk_session.specs.declared.session.Session.{Session}
 use Rattle.tk_session.specs.declared.session.SessionReading.{SessionReading}
@@ -90,3 +94,18 @@ check_outcome input = printed_outcome (reading_of input)
 
 abbrev pub usage_outcome : Outcome
 usage_outcome = record { status = statuses.Usage; bytes = codes "usage\n" }
+
+-- the trace of the script with a number, which is run in sync mode
+unfoldable pub generated_trace : ℕ → Trace
+generated_trace number = sync_trace (generated number) default_budget
+
+-- a run that is summed up
+abbrev pub summary_outcome : ℕ → Trace → Outcome
+summary_outcome number run = record { status = status_of_last run.last; bytes = summary number run }
+
+abbrev pub generate_outcome : ℕ → Outcome
+generate_outcome number = summary_outcome number (generated_trace number)
+
+-- the same of what was counted
+abbrev pub summed_outcome : Summary → Outcome
+summed_outcome summed = record { status = status_of_end summed.last; bytes = summed_text summed }

@@ -21,11 +21,11 @@ use Rattle.fleet_model.specs.Fleets.{most_counted}
 use Rattle.fleet_model.specs.Records.{AreJoined, Record}
 use Rattle.run_model.specs.Told.{Tells}
 use Rattle.tk_run.specs.declared.command.Command.{Command}
-use Rattle.tk_run.specs.declared.command.Command.TheVariants.{Run, Replay, Verify, Check}
+use Rattle.tk_run.specs.declared.command.Command.TheVariants.{Run, Replay, Verify, Check, Generate}
 use Rattle.tk_run.specs.declared.status.Status.{Status}
 use Rattle.tk_run.specs.declared.status.Status.TheVariants as statuses
 use Rattle.tk_run.specs.Answers.{HeadlineAnswers, IsCertain, IsDone, OutcomeAnswers}
-use Rattle.tk_run.specs.Outcomes.{check_outcome, refusal_outcome, refusal_text, replay_outcome, usage_outcome}
+use Rattle.tk_run.specs.Outcomes.{check_outcome, generate_outcome, refusal_outcome, refusal_text, replay_outcome, usage_outcome}
 use Rattle.tk_run.specs.Readings.{reading_of}
 use Rattle.tk_run.specs.Verdicts.{Verifies, VerifyHeadline, verify_outcome}
 
@@ -91,6 +91,7 @@ CommandAnswers (Some (Run mode budget)) input old new status closed = InputAnswe
 CommandAnswers (Some (Replay mode budget)) input old new status closed = OutcomeAnswers (replay_outcome mode budget input) old new status × (closed ≡ None)
 CommandAnswers (Some (Verify mode budget)) input old new status closed = OutcomeAnswers (verify_outcome mode budget input) old new status × (closed ≡ None)
 CommandAnswers (Some Check) input old new status closed = OutcomeAnswers (check_outcome input) old new status × (closed ≡ None)
+CommandAnswers (Some (Generate number)) input old new status closed = OutcomeAnswers (generate_outcome number) old new status × (closed ≡ None)
 CommandAnswers None input old new status closed = OutcomeAnswers usage_outcome old new status × (closed ≡ None)
 
 -- the input spells a script, and the sink took the text of a run of it, whose last line is one of these
@@ -117,6 +118,11 @@ abbrev pub CommandVerifies : Option Command → List ℕ → Status → Type 0
 CommandVerifies (Some (Verify mode budget)) input status = Verifies mode budget input status
 CommandVerifies _ input status = Unit {0}
 
+-- what is answered for the script with a number, whatever the source has
+abbrev pub CommandGenerates : Option Command → Option (List ℕ) → Option (List ℕ) → Status → Type 0
+CommandGenerates (Some (Generate number)) old new status = OutcomeAnswers (generate_outcome number) old new status
+CommandGenerates _ old new status = Unit {0}
+
 -- ---- where no stream fails
 
 -- the trace of every journal has room
@@ -135,6 +141,8 @@ CommandCertain (Some (Replay mode budget)) input room faults faults_now status =
 CommandCertain (Some (Verify mode budget)) input room faults faults_now status =
     length (verify_outcome mode budget input).bytes ≤ room → IsCertain (verify_outcome mode budget input).status faults faults_now status
 CommandCertain (Some Check) input room faults faults_now status = length (check_outcome input).bytes ≤ room → IsCertain (check_outcome input).status faults faults_now status
+CommandCertain (Some (Generate number)) input room faults faults_now status =
+    length (generate_outcome number).bytes ≤ room → IsCertain (generate_outcome number).status faults faults_now status
 CommandCertain None input room faults faults_now status = length usage_outcome.bytes ≤ room → IsCertain usage_outcome.status faults faults_now status
 
 -- ---- of the drivers

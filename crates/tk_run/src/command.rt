@@ -1,7 +1,7 @@
 //! The words of the program, and the command that they are.
 
 ghost use Rattle.std.specs.Prelude.{◌≡◌, ◌≢◌, ℕ, ◌≤◌, map, string_bytes, decimal, option_map, IfSome, IfNone};
-ghost use Rattle.tk_run.specs.Commands.{IsBudget, IsCommand, IsOptions, budget_at, budget_in, command_of, options, options_of, replay_with, run_with, verify_with};
+ghost use Rattle.tk_run.specs.Commands.{IsBudget, IsCommand, IsOptions, budget_at, budget_in, command_of, generate_of, options, options_of, replay_with, run_with, script_number, verify_with};
 
 use tk_text::natural;
 use tk_types::Mode;
@@ -17,6 +17,8 @@ pub enum Command {
     Verify { mode: Mode, budget: u32 },
     /// The printed form of the script that the input is.
     Check,
+    /// A run of the script with a number, which is made and not read, summed up.
+    Generate { number: u16 },
 }
 
 /// How a run is done: its mode, and at most how many steps, from 1 to 1,000,000.
@@ -33,6 +35,9 @@ const DEFAULT_BUDGET: u32 = 100_000;
 const LEAST_BUDGET: u64 = 1;
 
 const MOST_BUDGET: u64 = 1_000_000;
+
+/// The greatest number of a script that is made.
+const MOST_NUMBER: u64 = 65_535;
 
 /// The budget that a word spells: a number from 1 to 1,000,000 in digits of which the first isn't 0.
 #[tactic(auto, unfolding(crate::specs::Commands::budget_at))]
@@ -134,7 +139,40 @@ fn verify_with(options: Option<Options>) -> Option<Command>
     }
 }
 
-/// The command that the words are, or `None` where they are none: `run`, `replay` or `verify` with options, or `check` alone.
+/// The number of a script that a word spells: from 0 to 65,535, in digits of which the first of several isn't 0.
+#[tactic(auto, unfolding(crate::specs::Commands::script_number))]
+fn script_number(word: &[u8]) -> Option<u16>
+    ensures value { result ≡ script_number word.now }
+{
+    let Some(number) = natural(word) else {
+        return None;
+    };
+    if number > MOST_NUMBER {
+        return None;
+    }
+    Some(number as u16)
+}
+
+/// The making of the script whose number the words behind `gen` are.
+#[tactic(auto, unfolding(crate::specs::Commands::generate_of))]
+fn generate_of(words: &[String]) -> Option<Command>
+    ensures value { result ≡ generate_of (map string_bytes words.now) }
+    ensures within { IfSome result IsCommand }
+{
+    let Some((word, others)) = words.split_first() else {
+        return None;
+    };
+    if !others.is_empty() {
+        return None;
+    }
+    let Some(number) = script_number(word.as_bytes()) else {
+        return None;
+    };
+    Some(Command::Generate { number })
+}
+
+/// The command that the words are, or `None` where they are none: `run`, `replay` or `verify` with options, `check` alone, or `gen` with
+/// the number of a script.
 #[tactic(auto, unfolding(crate::specs::Commands::command_of))]
 pub fn command_of(words: &[String]) -> Option<Command>
     ensures value { result ≡ command_of (map string_bytes words.now) }
@@ -151,6 +189,9 @@ pub fn command_of(words: &[String]) -> Option<Command>
     }
     if name.as_str() == "verify" {
         return verify_with(options_of(behind));
+    }
+    if name.as_str() == "gen" {
+        return generate_of(behind);
     }
     if name.as_str() == "check" && behind.is_empty() {
         return Some(Command::Check);

@@ -3,11 +3,12 @@
 ghost use Rattle.std.specs.Prelude.{◌≡◌, ◌≢◌, ◌≤◌, ◌+◌, length, map, string_bytes, IfSome, None};
 ghost use Rattle.tk_ports.specs.Streams.{CountsWithin, Rose, TakesWithin};
 ghost use Rattle.tk_run.specs.Answers.{IsUsage};
-ghost use Rattle.tk_run.specs.Commands.{command_of, input_limit};
-ghost use Rattle.tk_run.specs.Runs.{CommandAnswers, CommandCertain, CommandHeadline, CommandStarts, CommandVerifies};
+ghost use Rattle.tk_run.specs.Commands.{IsUnread, command_of, input_limit};
+ghost use Rattle.tk_run.specs.Runs.{CommandAnswers, CommandCertain, CommandGenerates, CommandHeadline, CommandStarts, CommandVerifies};
 
 use crate::checking::check_script;
 use crate::command::{Command, command_of};
+use crate::generating::generate;
 use crate::refusal::tell_usage;
 use crate::replaying::replay_session;
 use crate::running::run_session;
@@ -48,9 +49,13 @@ pub fn program<R: Threads + Wait + Copy + Send + Sync + 'static, S: Source, K: S
     // A trace that its own run writes is told to be that, unless a stream failed or memory ran out.
     ensures own { IfSome (S.left source.old) (λ input. CommandVerifies (command_of (map string_bytes words.now)) input result.0) }
 
-    // Words that are no command, and no others, are answered so; nothing is read then.
+    // To make a script nothing is read, so this holds for every source.
+    ensures generated { CommandGenerates (command_of (map string_bytes words.now)) (K.held sink.old) (K.held sink.new) result.0 }
+
+    // Words that are no command, and no others, are answered so; nothing is read then, nor to make a script.
     ensures usage { result.0 ≡ Status.Usage → command_of (map string_bytes words.now) ≡ None }
-    ensures unread { command_of (map string_bytes words.now) ≡ None → IsUsage result.0 × (source.new ≡ source.old) }
+    ensures no_command { command_of (map string_bytes words.now) ≡ None → IsUsage result.0 }
+    ensures unread { IsUnread (command_of (map string_bytes words.now)) → source.new ≡ source.old }
 
     // A failure shows in its count, and nothing was written before the input was read.
     ensures read_fault { result.0 ≡ Status.ReadFault → Rose (S.faulted source.old) (S.faulted source.new) × (sink.new ≡ sink.old) }
@@ -86,5 +91,6 @@ pub fn program<R: Threads + Wait + Copy + Send + Sync + 'static, S: Source, K: S
             (verify_session(alloc, mode, budget, source, sink), None)
         }
         Command::Check => (check_script(alloc, source, sink), None),
+        Command::Generate { number } => (generate(alloc, number, sink), None),
     }
 }

@@ -23,7 +23,7 @@ use tk_ports::Sink;
 use tk_types::{End, Mode, Script};
 
 /// The status of a run that ended so.
-fn status_of_end(end: End) -> Status
+pub(crate) fn status_of_end(end: End) -> Status
     ensures { result ≡ status_of_end end }
 {
     match end {

@@ -6,6 +6,7 @@ mod command;
 mod entry;
 mod fleet_run;
 mod fleet_turn;
+mod generating;
 mod judging;
 mod offering;
 mod reading;
