@@ -1,5 +1,5 @@
 -- The one device of a generated script: what the kernel has to do with its driver, from one turn to the next.
-use Rattle.std.proofs.Common.{◌≡◌, ℕ, suc, ◌+◌, ◌≤◌, Bool, true, false, not, ◌&&◌, length, List, [], ◌∷◌, ◌++◌, Option, Some, None, refl, ap, sym, subst, ◌∙◌, arith}
+use Rattle.std.proofs.Common.{◌≡◌, ℕ, ◌+◌, ◌≤◌, Bool, true, false, not, ◌&&◌, length, List, [], ◌∷◌, ◌++◌, Option, Some, None, refl, ap, sym, subst, ◌∙◌, arith}
 use Rattle.std.specs.Prelude.{cond, drop, if◌then◌else◌, map, slice_set, unwrap_or}
 use Rattle.std.specs.List.{find, list_any}
 use Rattle.std.specs.Option.{is_some, option_map}
@@ -8,7 +8,6 @@ use Rattle.tk_types.specs.declared.run.End.{End}
 use Rattle.tk_types.specs.declared.run.Mode.TheVariants as modes
 use Rattle.tk_types.specs.declared.script.Device.{Device}
 use Rattle.tk_types.specs.declared.script.Script.{Script}
-use Rattle.kernel_model.specs.Bodies.Statements.{IsRunnable}
 use Rattle.kernel_model.specs.Tasks.Base.{Base}
 use Rattle.kernel_model.specs.Words.Orders.{entry, taken_from}
 use Rattle.device_model.specs.declared.messages.Ending.{Ending}
@@ -16,11 +15,10 @@ use Rattle.device_model.specs.declared.messages.Message.{Message}
 use Rattle.device_model.specs.declared.messages.Message.TheVariants as message
 use Rattle.device_model.specs.declared.messages.Request.{Request}
 use Rattle.device_model.specs.declared.rows.Opened.{Opened}
-use Rattle.device_model.specs.Units.Function.{IsWhole, Served, unit}
-use Rattle.device_model.specs.Devices.Endings.{DevParts, arrive, arrive_fit, arrive_given, arrive_link, closed, closed_after, ended_at, ending_of, expected, expected_link, free_unless, is_fit, served_of}
-use Rattle.device_model.specs.Devices.Handing.{any_given, any_queued, emptied, hand_first, handed_one, has_given, link_emptied, messages}
-use Rattle.device_model.specs.Devices.Tables.{Devices, Given, Link, Row, at_driver, device_ids, devices_start, dropped, first_queued, given_in, handed, handed_first, handed_link, handed_row, link_at, link_handed, link_start, opened_at, request_in, request_of, row_at}
-use Rattle.device_laws.specs.Words.{but_for}
+use Rattle.device_model.specs.Units.Function.{IsWhole, unit}
+use Rattle.device_model.specs.Devices.Endings.{DevParts, arrive, arrive_fit, arrive_given, arrive_link, closed, closed_after, ending_of, expected, expected_link, free_unless, is_fit}
+use Rattle.device_model.specs.Devices.Handing.{any_given, emptied, hand_first, handed_one, has_given, link_emptied, messages}
+use Rattle.device_model.specs.Devices.Tables.{Devices, Given, Link, Row, at_driver, devices_start, dropped, first_queued, given_in, handed, handed_first, handed_link, handed_row, link_at, link_handed, link_start, opened_at, request_in, request_of, row_at}
 use Rattle.device_laws.proofs.Fits.{expected_arrives}
 use Rattle.driver_model.specs.Cores.{Core, core_start}
 use Rattle.machine_model.specs.States.Objects.{dev_parts, with_devices}
@@ -28,20 +26,20 @@ use Rattle.machine_model.specs.States.State.{State, parts_of, state_start, taken
 use Rattle.machine_model.specs.Events.Arrivals.{after_arrival, arrived}
 use Rattle.machine_model.specs.Events.Follow.{Event}
 use Rattle.machine_model.specs.Runs.Generator.{generated}
-use Rattle.machine_model.specs.Runs.Step.{Ends, Needs, Pace, Went, any_unfinished, counted, ended_or_went, handed_if, has_event, is_quiet, needed, needed_or, needed_sync, step, step_if, with_first_handed, worked}
+use Rattle.machine_model.specs.Runs.Step.{Ends, Needs, Pace, Went, any_unfinished, counted, ended_or_went, has_event, is_quiet, needed, needed_or, step, step_if, worked}
 use Rattle.machine_model.specs.Runs.SyncTrace.{first_given, needed_ending}
 use Rattle.machine_model.specs.Runs.Trace.{start}
 use Rattle.machine_lemmas.proofs.DeviceServings.{dropped_links}
 use Rattle.journal_laws.proofs.Needed.{queued_given}
 use Rattle.way_lemmas.specs.Ways.{IsGoodMessage}
-use Rattle.way_lemmas.proofs.Sounds.{Sound, arrived_sound, good_messages, good_waiting, needs_sound, start_sound, went_sound}
-use Rattle.way_lemmas.proofs.Sync.{SyncSound, arrived_syncs, needs_syncs, needs_to, start_syncs, went_syncs}
+use Rattle.way_lemmas.proofs.Sounds.{arrived_sound, good_messages, good_waiting, needs_sound, start_sound, went_sound}
+use Rattle.way_lemmas.proofs.Sync.{arrived_syncs, needs_syncs, needs_to, start_syncs, went_syncs}
 use Rattle.way_lemmas.proofs.SyncLinks.{followed_links, worked_links}
 use Rattle.world_laws.specs.Sound.{Each}
 use Rattle.world_laws.proofs.Arrivals.{has_arrived}
 use Rattle.world_laws.proofs.DeviceWalk.{dispatched_keeps}
 use Rattle.tk_gen.specs.Objects.{the_device}
-use Rattle.tk_gen.specs.Serving.{IsFree, IsServedBy, link_of, links_of}
+use Rattle.tk_gen.specs.Serving.{IsServedBy, link_of, links_of}
 use Rattle.tk_gen.proofs.Scripts.{devices_are, runnable}
 
 -- ---- what a step comes to

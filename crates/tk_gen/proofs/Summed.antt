@@ -1,5 +1,5 @@
 -- The run of a generated script, turn by turn, and what is told of it.
-use Rattle.std.proofs.Common.{◌≡◌, ℕ, suc, ◌+◌, ◌-◌, ◌*◌, ◌≤◌, ◌<◌, ◌^◌, List, [], ◌++◌, None, refl, ap, sym, subst, ◌∙◌, append-nil, append_assoc, arith, Option, Some}
+use Rattle.std.proofs.Common.{◌≡◌, ℕ, suc, ◌+◌, ◌*◌, ◌≤◌, List, [], ◌++◌, None, refl, ap, sym, subst, ◌∙◌, append-nil, append_assoc, arith, Option, Some}
 use Rattle.std.specs.Prelude.{count_by}
 use Rattle.tk_types.specs.declared.line.Line.{Line}
 use Rattle.tk_types.specs.declared.run.End.{End}
@@ -13,7 +13,7 @@ use Rattle.machine_model.specs.Runs.Trace.{Trace, after, last_of, start}
 use Rattle.tk_gen.specs.declared.counts.Counts.{Counts}
 use Rattle.tk_gen.specs.declared.running.ServedRun.{ServedRun}
 use Rattle.tk_gen.specs.declared.summary.Summary.{Summary}
-use Rattle.tk_gen.specs.Counts.{HasRoom, counted_on, is_call, is_ending, is_tick, is_wait, nothing_counted}
+use Rattle.tk_gen.specs.Counts.{counted_on, is_call, is_ending, is_tick, is_wait, nothing_counted}
 use Rattle.tk_gen.specs.Serving.{GoesOn, IsBetweenTurns, IsOver, TurnGives}
 use Rattle.tk_gen.specs.Summaries.{SumsUp, most_steps}
 use Rattle.tk_gen.proofs.Counted.{counted_both}
@@ -57,21 +57,11 @@ underway_first number left run all between state counts taken =
 
 -- ---- a turn
 
--- the machine's own script and budget are these
-pub between_own : (number : ℕ) (run : ServedRun) → IsBetweenTurns (generated number) most_steps run → IsBetweenTurns run.machine.script run.machine.budget run
-between_own number run between =
-    subst (λ (script : Script). IsBetweenTurns script run.machine.budget run) (sym (ap (λ (m : Machine). m.script) between.machine_is))
-    (subst (λ (budget : ℕ). IsBetweenTurns (generated number) budget run) (sym (ap (λ (m : Machine). m.budget) between.machine_is)) between)
-
-pub of_these : (P : Script → ℕ → Type 0) (number : ℕ) (run : ServedRun) → IsBetweenTurns (generated number) most_steps run → P run.machine.script run.machine.budget → P (generated number) most_steps
+-- what is said of the machine's own script and budget
+of_these : (P : Script → ℕ → Type 0) (number : ℕ) (run : ServedRun) → IsBetweenTurns (generated number) most_steps run → P run.machine.script run.machine.budget → P (generated number) most_steps
 of_these P number run between has =
     subst (λ (budget : ℕ). P (generated number) budget) (ap (λ (m : Machine). m.budget) between.machine_is)
     (subst (λ (script : Script). P script run.machine.budget) (ap (λ (m : Machine). m.script) between.machine_is) has)
-
-pub underway_room : (number left turn : ℕ) (run : ServedRun) → turn ≤ 200001 → IsUnderway number left turn run → HasRoom 2 run.counts
-underway_room number left turn run most under =
-    let c = under.few.calls in let w = under.few.waits in let t = under.few.ticks in let e = under.few.endings in
-    record { calls = omega (arith, most, c); waits = omega (arith, most, w); ticks = omega (arith, most, t); endings = omega (arith, most, e) }
 
 after_both : (front next : List Line) (rest : Trace) → after front (after next rest) ≡ after (front ++ next) rest
 after_both front next rest = ap (λ (all : List Line). let t : Trace = record rest { lines = all } in t) (sym (append_assoc front next rest.lines))

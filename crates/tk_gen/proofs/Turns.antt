@@ -1,8 +1,7 @@
 -- What each turn of a run comes to.
 use Rattle.std.proofs.Common.{◌≡◌, ℕ, suc, ◌+◌, ◌≤◌, Bool, false, List, [], ◌∷◌, ◌++◌, Option, Some, None, refl, ap, sym, subst, ◌∙◌, append-nil, arith}
-use Rattle.std.specs.Prelude.{cond, count_by}
+use Rattle.std.specs.Prelude.{count_by}
 use Rattle.std.specs.Option.{option_map}
-use Rattle.tk_types.specs.declared.line.How.TheVariants.{Done}
 use Rattle.tk_types.specs.declared.line.LastLine.{LastLine}
 use Rattle.tk_types.specs.declared.line.Line.{Line}
 use Rattle.tk_types.specs.declared.line.Line.TheVariants as lines
@@ -27,7 +26,6 @@ use Rattle.machine_model.specs.Runs.Step.{Ends, Needs, Pace, Went, step, worked}
 use Rattle.machine_model.specs.Runs.SyncTrace.{SyncRun, needed_ending, sync_arrived, sync_ending, sync_runs, sync_turn}
 use Rattle.machine_model.specs.Runs.Trace.{Trace, after, last_of, start}
 use Rattle.tk_kernel.specs.Pace.{pace_with}
-use Rattle.tk_kernel.specs.declared.pacing.Pace.{Pace as Answer}
 use Rattle.tk_kernel.specs.declared.pacing.Pace.TheVariants as answers
 use Rattle.tk_gen.specs.declared.counts.Counts.{Counts}
 use Rattle.tk_gen.specs.declared.running.ServedRun.{ServedRun}
@@ -35,9 +33,9 @@ use Rattle.tk_gen.specs.Counts.{Fits, HasRoom, IsPlain, counted_on, is_call, is_
 use Rattle.tk_gen.specs.Objects.{the_device}
 use Rattle.tk_gen.specs.Serving.{AreFew, GoesOn, HasRequest, HasServed, IsBetweenTurns, IsOver, IsServedBy, going}
 use Rattle.tk_gen.specs.Summaries.{most_steps}
-use Rattle.tk_gen.proofs.Counted.{count_both, counted_both, counts_are}
+use Rattle.tk_gen.proofs.Counted.{counted_both, counts_are}
 use Rattle.tk_gen.proofs.LineCounts.{arrived_few, start_none, worked_few}
-use Rattle.tk_gen.proofs.OneDevice.{IsServing, core_after, ending_by, needed_whole, needs_asked, serves, serves_taken, start_served, went_served, went_silent, went_to}
+use Rattle.tk_gen.proofs.OneDevice.{IsServing, core_after, ending_by, needed_whole, needs_asked, serves_taken, start_served, went_served, went_silent, went_to}
 
 -- ---- few lines are counted
 
@@ -62,11 +60,11 @@ went_few script budget st event over is =
     went_to (λ (done : Event). AreFew done.lines) script budget st event over is
     (few_by (worked script modes.Sync (st.steps + 1) st).lines (λ p plain. worked_few p plain script modes.Sync (st.steps + 1) st))
 
-pub come_few : (script : Script) (st : State) (e : Ending) (event : Event) → arrived script modes.Sync st e ≡ Some event → AreFew event.lines
+come_few : (script : Script) (st : State) (e : Ending) (event : Event) → arrived script modes.Sync st e ≡ Some event → AreFew event.lines
 come_few script st e event is = few_by event.lines (λ p plain. arrived_few p plain script modes.Sync st e event is)
 
 -- so there is room for them
-pub few_fit : (before : Counts) (all : List Line) → HasRoom 2 before → AreFew all → Fits (counted_on before all)
+few_fit : (before : Counts) (all : List Line) → HasRoom 2 before → AreFew all → Fits (counted_on before all)
 few_fit before all room few =
     let c = room.calls in let w = room.waits in let t = room.ticks in let e = room.endings in
     let fc = few.calls in let fw = few.waits in let ft = few.ticks in let fe = few.endings in
@@ -134,8 +132,8 @@ went_goes script budget old new now (Went event None) between is stepped went ma
       counts = counts ∙ ap (λ (m : Machine). counted_on old.counts m.lines) stepped;
       taken_more = let same : new.driver.taken ≡ old.driver.taken = ap (λ (c : Core). c.taken) driver in omega (arith, same);
       turn = λ left.
-      ap (λ (r : SyncRun). r.trace) (one_turn left script budget st (Went event None) is)
-      ∙ ap (λ (m : Machine). after event.lines (sync_runs left script budget m.state).trace) (sym whole);
+          ap (λ (r : SyncRun). r.trace) (one_turn left script budget st (Went event None) is)
+          ∙ ap (λ (m : Machine). after event.lines (sync_runs left script budget m.state).trace) (sym whole);
     }
 went_goes script budget old new now (Went event (Some end)) between is stepped went machine driver counts = absurd (cc went)
 went_goes script budget old new now (Needs waiting) between is stepped went machine driver counts = absurd (cc went)
@@ -154,10 +152,10 @@ over_is script budget old new now end (Went event (Some last)) is stepped over m
       lines = event.lines;
       counts = counts ∙ (ap (λ (m : Machine). counted_on old.counts m.lines) stepped ∙ with_end old.counts event.lines event.state.steps (last_of last));
       turn = λ left.
-      ap (λ (r : SyncRun). r.trace) (one_turn left script budget old.machine.state (Went event (Some last)) is)
-      ∙ (ap (λ (all : List Line). let t : Trace = record { lines = all; steps = event.state.steps; last = last_of last } in t) (append-nil event.lines)
-      ∙ (ap (λ (n : ℕ). let t : Trace = record { lines = event.lines; steps = n; last = last_of last } in t) (sym steps)
-      ∙ ap (λ (one : End). let t : Trace = record { lines = event.lines; steps = new.machine.state.steps; last = last_of one } in t) (sym same)));
+          ap (λ (r : SyncRun). r.trace) (one_turn left script budget old.machine.state (Went event (Some last)) is)
+          ∙ (ap (λ (all : List Line). let t : Trace = record { lines = all; steps = event.state.steps; last = last_of last } in t) (append-nil event.lines)
+          ∙ (ap (λ (n : ℕ). let t : Trace = record { lines = event.lines; steps = n; last = last_of last } in t) (sym steps)
+          ∙ ap (λ (one : End). let t : Trace = record { lines = event.lines; steps = new.machine.state.steps; last = last_of one } in t) (sym same)));
     }
 over_is script budget old new now end (Needs waiting) is stepped over machine counts = absurd (cc over)
 over_is script budget old new now end Ends is stepped over machine counts =
@@ -167,9 +165,9 @@ over_is script budget old new now end Ends is stepped over machine counts =
       lines = [];
       counts = counts ∙ (ap (λ (m : Machine). counted_on old.counts m.lines) stepped ∙ with_end old.counts [] old.machine.state.steps (last_of ends.Idle));
       turn = λ left.
-      ap (λ (r : SyncRun). r.trace) (one_turn left script budget old.machine.state Ends is)
-      ∙ (ap (λ (n : ℕ). let t : Trace = record { lines = []; steps = n; last = last_of ends.Idle } in t) (sym steps)
-      ∙ ap (λ (one : End). let t : Trace = record { lines = []; steps = new.machine.state.steps; last = last_of one } in t) (sym same));
+          ap (λ (r : SyncRun). r.trace) (one_turn left script budget old.machine.state Ends is)
+          ∙ (ap (λ (n : ℕ). let t : Trace = record { lines = []; steps = n; last = last_of ends.Idle } in t) (sym steps)
+          ∙ ap (λ (one : End). let t : Trace = record { lines = []; steps = new.machine.state.steps; last = last_of one } in t) (sym same));
     }
 
 -- ---- an ending is needed
@@ -212,8 +210,8 @@ served_goes script budget old new now (Needs waiting) is stepped needs has =
       counts = it.counts;
       taken_more = it.taken_more;
       turn = λ left.
-      ending_turn left script budget old.machine.state waiting it.ending it.event is it.needed it.arrives
-      ∙ ap (λ (st : State). after it.event.lines (sync_runs left script budget st).trace) (sym it.state);
+          ending_turn left script budget old.machine.state waiting it.ending it.event is it.needed it.arrives
+          ∙ ap (λ (st : State). after it.event.lines (sync_runs left script budget st).trace) (sym it.state);
     }
 served_goes script budget old new now Ends is stepped needs has = absurd (cc needs)
 

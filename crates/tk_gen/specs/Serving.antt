@@ -1,6 +1,5 @@
 -- How a run whose one device is served inline stands between its turns, and what a turn comes to.
-use Rattle.std.specs.Prelude.{ℕ, suc, ◌≡◌, ◌≤◌, ◌+◌, false, List, [], ◌∷◌, ◌++◌, Option, Some, None, count_by}
-use Rattle.tk_types.specs.declared.line.How.TheVariants as hows
+use Rattle.std.specs.Prelude.{ℕ, suc, ◌≡◌, ◌≤◌, ◌+◌, false, List, [], ◌∷◌, Option, Some, None, count_by}
 use Rattle.tk_types.specs.declared.line.Line.{Line}
 use Rattle.tk_types.specs.declared.run.End.{End}
 use Rattle.tk_types.specs.declared.run.Mode.TheVariants as modes
@@ -16,11 +15,10 @@ use Rattle.machine_model.specs.Events.Arrivals.{arrived}
 use Rattle.machine_model.specs.Events.Follow.{Event}
 use Rattle.machine_model.specs.Runs.Machine.{Machine}
 use Rattle.machine_model.specs.Runs.SyncTrace.{needed_ending, sync_runs}
-use Rattle.machine_model.specs.Runs.Trace.{Trace, after, last_of}
+use Rattle.machine_model.specs.Runs.Trace.{after, last_of}
 use Rattle.way_lemmas.proofs.Sounds.{Sound}
 use Rattle.way_lemmas.proofs.Sync.{SyncSound}
 use Rattle.tk_gen.specs.Counts.{counted_on, is_call, is_ending, is_tick, is_wait}
-use Rattle.tk_gen.specs.declared.counts.Counts.{Counts}
 use Rattle.tk_gen.specs.declared.running.ServedRun.{ServedRun}
 
 -- a driver that wasn't stopped has neither a request nor an ending, and it makes no empty turns

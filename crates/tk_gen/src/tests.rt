@@ -38,13 +38,19 @@ fn line_of(alloc: Global, number: u16) -> Result<Vec<u8>, OutOfMemory> {
 
 #[test]
 fn line_of_script_0(rt: HostRuntime) -> Result<(), Fail> {
-    assert_eq!(rt; line_of(rt.alloc(), 0)?.as_slice(), b"gen 0 steps 4450 calls 2788 waits 1517 ticks 145 endings 512\n".as_slice());
+    assert_eq!(rt;
+        line_of(rt.alloc(), 0)?.as_slice(),
+        b"gen 0 steps 4450 calls 2788 waits 1517 ticks 145 endings 512\n".as_slice()
+    );
     Ok(())
 }
 
 #[test]
 fn line_of_script_1(rt: HostRuntime) -> Result<(), Fail> {
-    assert_eq!(rt; line_of(rt.alloc(), 1)?.as_slice(), b"gen 1 steps 4455 calls 2508 waits 1797 ticks 150 endings 492\n".as_slice());
+    assert_eq!(rt;
+        line_of(rt.alloc(), 1)?.as_slice(),
+        b"gen 1 steps 4455 calls 2508 waits 1797 ticks 150 endings 492\n".as_slice()
+    );
     Ok(())
 }
 
@@ -53,12 +59,18 @@ fn line_of_script_1(rt: HostRuntime) -> Result<(), Fail> {
 fn line_of_script_7(rt: HostRuntime) -> Result<(), Fail> {
     let summary = summed_up(rt.alloc(), 7)?;
     assert_eq!(rt; summary.last, End::Idle);
-    assert_eq!(rt; summary_text(rt.alloc(), &summary)?.as_slice(), b"gen 7 steps 4447 calls 2918 waits 1387 ticks 142 endings 488\n".as_slice());
+    assert_eq!(rt;
+        summary_text(rt.alloc(), &summary)?.as_slice(),
+        b"gen 7 steps 4447 calls 2918 waits 1387 ticks 142 endings 488\n".as_slice()
+    );
     Ok(())
 }
 
 #[test]
 fn line_of_the_last_script(rt: HostRuntime) -> Result<(), Fail> {
-    assert_eq!(rt; line_of(rt.alloc(), 65_535)?.as_slice(), b"gen 65535 steps 4443 calls 2681 waits 1624 ticks 138 endings 513\n".as_slice());
+    assert_eq!(rt;
+        line_of(rt.alloc(), 65_535)?.as_slice(),
+        b"gen 65535 steps 4443 calls 2681 waits 1624 ticks 138 endings 513\n".as_slice()
+    );
     Ok(())
 }

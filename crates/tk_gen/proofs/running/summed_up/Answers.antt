@@ -1,4 +1,4 @@
-use Rattle.std.proofs.Common.{ℕ, ◌≡◌, ◌+◌, ◌-◌, suc, sym, subst, refl, arith}
+use Rattle.std.proofs.Common.{ℕ, ◌≡◌, ◌+◌, ◌-◌, suc, sym, subst, arith}
 use Rattle.machine_model.specs.Runs.Generator.{generated}
 use Rattle.machine_model.specs.Runs.SyncTrace.{sync_trace}
 use Rattle.tk_gen.specs.Summaries.{SumsUp, most_steps}
@@ -32,7 +32,6 @@ turns-preserved c =
 pub returns : goal.returns
 returns c =
     let end = c.turns-test.false in
-    let most = c.turns.auto._turn-end in
     let left : 200001 - c.turns._turn ≡ 0 = omega (arith, end) in
     subst (λ (summed : Summary). SumsUp summed c.args.number (sync_trace (generated c.args.number) most_steps)) (sym c.summary-2.ensures)
     (budget_sums c.args.number c.turns._turn c.turns.run (subst (λ (n : ℕ). IsUnderway c.args.number n c.turns._turn c.turns.run) left c.turns.invariant))
