@@ -133,7 +133,7 @@ pub fn summed_up(alloc: Global, number: u16) -> Result<Summary, OutOfMemory>
             return Ok(run.summary(number, end));
         }
     }
-    // Each turn does a step or takes the ending of a request, of which each is asked for at a step of its own. So no turn is left
-    // here.
+    // Each turn does a step or takes the ending of a request, and each request is asked for at a step of its own. So these turns
+    // are enough.
     Ok(run.summary(number, End::Budget))
 }
