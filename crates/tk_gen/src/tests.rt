@@ -20,7 +20,7 @@ fn draws_from_seven_on(rt: HostRuntime) -> Result<(), Fail> {
 fn the_first_draw_gives_a_priority(rt: HostRuntime) -> Result<(), Fail> {
     let script = generated(rt.alloc(), 7)?;
     let Some(body) = script.bodies.as_slice().first() else {
-        return Ok(());
+        return Err("the script has no body".into());
     };
     let priority = match body.stmts.as_slice().get(4) {
         Some(Stmt::Call { name: _, args }) => args.as_slice().get(2).copied(),

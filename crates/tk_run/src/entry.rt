@@ -21,17 +21,19 @@ use std::thread::Threads;
 use tk_ports::{Sink, Source};
 
 /// Does all that the shipped program does: reads its words, reads the input from the source, does what the words
-/// ask for with the script that the input is, or the session, and writes to the sink: of `run` and `replay` the trace, of
-/// `check` the printed form. The drivers of a `run` with devices run on threads that the spawner starts; its record tells what
-/// went to each of them and came from it. The other commands have no record.
+/// ask for with the script that the input is, the session, or the script with a trace, and writes to the sink: of `run` and `replay`
+/// the trace, of `verify` the verdict, of `check` the printed form. `gen` reads nothing and writes one line. The drivers of a `run` with
+/// devices run on threads that the spawner starts; its record tells what went to each of them and came from it. The other commands have
+/// no record.
 ///
 /// The answers come in this order. `Usage` where the words are no command; then nothing is read and `usage` is
 /// written. `ReadFault` where the source failed; then nothing is written. `Refused` where the input spells no
-/// script, or for `replay` no session; then `refused LINE WHY` is written. `NoThread` where a driver of a `run` couldn't be started;
-/// then nothing is written. Then the trace is written, with `Done` or `Budget`, or of `replay` `Starved` or `Unfit`, by its end,
-/// or the printed form with `Done`. Each written line ends with a line
-/// feed. `WriteFault`, where the sink failed, and `NoMemory` may stand in the place of what would have followed; then a
-/// front of those bytes was written. Only a `run` with devices may wait, for a driver.
+/// script, for `replay` no session, or for `verify` no script with a trace; then `refused LINE WHY` is written. `NoThread` where a driver
+/// of a `run` couldn't be started; then nothing is written. Then the trace is written, with `Done` or `Budget`, or of `replay`
+/// `Starved` or `Unfit`, by its end; or the verdict, with `Starved` or `Unfit`, else `Differs`, else `Done`; or the line of `gen`, with
+/// `Done` or `Budget`; or the printed form with `Done`. Each written line ends with a line feed. `WriteFault`, where the sink failed,
+/// and `NoMemory` may stand in the place of what would have followed; then a front of those bytes was written.
+/// Only a `run` with devices may wait, for a driver.
 pub fn program<R: Threads + Wait + Copy + Send + Sync + 'static, S: Source, K: Sink, P: Spawner<R>>(
     rt: &R,
     alloc: Global,
@@ -43,7 +45,8 @@ pub fn program<R: Threads + Wait + Copy + Send + Sync + 'static, S: Source, K: S
     // The answer is what words and input come to, unless a stream or a start failed or memory ran out.
     ensures answers { IfSome (S.left source.old) (λ input. CommandAnswers (command_of (map string_bytes words.now)) input (K.held sink.old) (K.held sink.new) result.0 result.1) }
 
-    // With the status of a run the input spells a script, or a session, and its trace or its printed form was written.
+    // With the status of a run or of a verdict the input spells what the command wants, and its trace, the verdict or its printed form
+    // was written.
     ensures headline { IfSome (S.left source.old) (λ input. CommandHeadline (command_of (map string_bytes words.now)) input (K.held sink.old) (K.held sink.new) result.0 result.1) }
 
     // A trace that its own run writes is told to be that, unless a stream failed or memory ran out.
